@@ -1,0 +1,12 @@
+pub mod Turn
+pub mod Words
+pub mod AllBytes
+pub mod Parts
+pub mod Xor
+pub mod Lanes
+pub mod Bounds
+pub mod Streams
+pub mod Blockwise
+pub mod Numbers
+pub mod Same
+pub mod Promises

@@ -1,0 +1,15 @@
+-- Each word is what `word_at` ensures.
+use Rattle.morus.specs.Lane.{laneOf}
+use borrow.Author.Needs.{needs}
+use Rattle.morus.proofs.lane.Lane.from_bytes.Statement.{statement}
+use Rattle.morus.proofs.lane.Lane.from_bytes.Tie as tie
+
+returns : tie.Need-returns
+unfolding laneOf
+returns c =
+    cc
+
+pub from-bytes-spec : {M : Type 1} → statement M
+from-bytes-spec =
+    tie.close
+    (tie.spec (λ c κs. search needs) (λ c κs. search needs) (λ c κs. search needs) (λ c κs. search needs) returns)

@@ -1,0 +1,11 @@
+-- The calls' equations, joined.
+use borrow.Author.Needs.{needs}
+use Rattle.morus.proofs.lane.Lane.mix.Statement.{statement}
+use Rattle.morus.proofs.lane.Lane.mix.Tie as tie
+
+returns : tie.Need-returns
+returns c =
+    cc
+
+pub mix-spec : {M : Type 1} → statement M
+mix-spec = tie.close (tie.spec (λ c κs. search needs) (λ c κs. search needs) (λ c κs. search needs) returns)

@@ -1,0 +1,14 @@
+-- The four words are those that the definition says, by computation.
+use mathlib.Core.Path.{refl}
+use Rattle.morus.specs.Lane.{moved}
+use borrow.Author.Needs.{needs}
+use Rattle.morus.proofs.lane.Lane.move3.Statement.{statement}
+use Rattle.morus.proofs.lane.Lane.move3.Tie as tie
+
+returns : tie.Need-returns
+unfolding moved
+returns c =
+    refl
+
+pub move3-spec : {M : Type 1} → statement M
+move3-spec = tie.close (tie.spec (λ c. search needs) (λ c. search needs) (λ c. search needs) (λ c. search needs) returns)

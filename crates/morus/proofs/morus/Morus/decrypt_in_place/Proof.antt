@@ -1,0 +1,60 @@
+-- Refused by the lengths, or judged by the tag that the opened text gives.
+use mathlib.Core.Path.{_≡_, refl, sym, ap, _∙_}
+use mathlib.Core.List.{List}
+use Prim.Native.Nat.{ℕ}
+use lib.ListN.{length, replicate}
+use Rattle.morus.specs.Blocks.{opening}
+use Rattle.morus.specs.Seal.{unsealFrom}
+use Rattle.morus.proofs.Blockwise.{length-bytes}
+use Rattle.morus.proofs.Numbers.{Short, if-passed}
+use Rattle.morus.proofs.Promises.{open-lengths, open-same, open-other}
+use borrow.Author.Needs.{needs}
+use Rattle.morus.proofs.morus.Morus.decrypt_in_place.Statement.{statement}
+use Rattle.morus.proofs.morus.Morus.decrypt_in_place.Tie as tie
+
+returns : tie.Need-returns
+returns c =
+    let t : tie.Then1 = c .before .before .before .before in
+    open-lengths _ _ _ _ 0 _ (t .before .short-number .ensures) (t .if1 .taken) (λ n. absurd (n refl)) (c .before .before .fill .ensures)
+
+passed : (l : tie.Else1) → Short (length (l .before .before .before .before .args .ad .now)) (length (l .before .before .before .before .args .mc .now))
+passed l = if-passed _ _ 0 (sym (l .before .short-number .ensures) ∙ l .if1 .left) .0
+
+mac-requires : tie.Need-mac-requires
+mac-requires c κs =
+    let p = passed (c .before .before .before .before .before) in
+    (p .data-short, p .text-short)
+
+returns-2 : tie.Need-returns-2
+unfolding unsealFrom
+returns-2 c =
+    let m : tie.After-mac = c .before .before in
+    let u : tie.After-uncover = m .before .before .before in
+    let a : tie.After-absorb = u .before .before in
+    open-same _ _ _ _ _ (passed (a .before)) (rw (m .mac .ensures, u .uncover .ensures .0, a .absorb .ensures)) (sym (c .before .same-tag .ensures) ∙ c .if2 .taken) (rw (u .uncover .ensures .1, a .absorb .ensures))
+
+returns-3 : tie.Need-returns-3
+returns-3 c =
+    let e : tie.Else2 = c .before .before .before .before in
+    let m : tie.After-mac = e .before .before in
+    let u : tie.After-uncover = m .before .before .before in
+    let a : tie.After-absorb = u .before .before in
+    open-other _ _ _ _ _ (passed (a .before)) (rw (m .mac .ensures, u .uncover .ensures .0, a .absorb .ensures)) (sym (e .before .same-tag .ensures) ∙ e .if2 .left) (c .before .before .fill2 .ensures ∙ rw (u .uncover .ensures .1, length-bytes))
+
+pub decrypt-in-place-spec : {M : Type 1} → statement M
+decrypt-in-place-spec =
+    tie.close
+    (tie.spec
+    (λ c κs. search needs)
+    (λ c κs. search needs)
+    (λ c. search needs)
+    returns
+    (λ c κs. search needs)
+    (λ c κs. search needs)
+    mac-requires
+    (λ c κs. search needs)
+    (λ c. search needs)
+    returns-2
+    (λ c κs. search needs)
+    (λ c. search needs)
+    returns-3)

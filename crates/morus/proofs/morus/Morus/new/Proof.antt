@@ -1,0 +1,14 @@
+-- `State::new` takes the key first.
+use mathlib.Core.Path.{ap}
+use Rattle.morus.specs.Morus.{begun}
+use borrow.Author.Needs.{needs}
+use Rattle.morus.proofs.morus.Morus.new.Statement.{statement}
+use Rattle.morus.proofs.morus.Morus.new.Tie as tie
+
+returns : tie.Need-returns
+unfolding begun
+returns c =
+    rw (c .new .ensures)
+
+pub new-spec : {M : Type 1} → statement M
+new-spec = tie.close (tie.spec (λ c κs. search needs) returns)

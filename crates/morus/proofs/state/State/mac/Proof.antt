@@ -1,0 +1,71 @@
+-- The invariant: `i` updates with the length lane are done. The measure is what is left of ten.
+use mathlib.Core.Path.{_≡_, refl, ap, sym}
+use Prim.Native.Nat.{_≤_, _-_}
+use native.Mathlib.Omega.{arith}
+use native.Mathlib.Numerals.{add-one}
+use lib.ListN.{length}
+use Rattle.morus.specs.Lane.{laneBytes}
+use Rattle.morus.specs.Update.{update, times}
+use Rattle.morus.specs.Blocks.{stream}
+use Rattle.morus.specs.Tag.{tag}
+use borrow.Author.Needs.{needs}
+use Rattle.morus.proofs.state.State.mac.Statement.{statement}
+use Rattle.morus.proofs.state.State.mac.Tie as tie
+
+abbrev Inv-loop : tie.InvT-loop
+Inv-loop adlen mlen lens st₀ i₀ st i = (i ≤ 10) × (st ≡ times i lens st₀)
+
+abbrev μ-loop : tie.MeasureT-loop
+μ-loop adlen mlen lens st₀ i₀ st i = 10 - i
+
+loop-holds : tie.Need-loop-holds Inv-loop μ-loop
+unfolding times
+loop-holds c =
+    (omega arith, refl)
+
+loop-again : tie.Need-loop-again Inv-loop μ-loop
+unfolding times update
+loop-again c =
+    (omega arith, rw (c .last .ensures, c .before .first .ensures, add-one, c .before .before .before .loop .inv .1))
+
+whole : tie.Need-slice-aggregate-copy-2 Inv-loop μ-loop
+unfolding laneBytes
+whole c = ap length (sym (c .before .before .write .ensures))
+
+enough : tie.Need-copy-requires Inv-loop μ-loop
+unfolding laneBytes
+enough c κs = (search needs, omega (arith, ap length (c .before .before .write .ensures)))
+
+returns : tie.Need-returns Inv-loop μ-loop
+unfolding tag stream laneBytes
+returns c =
+    let w : tie.After-write Inv-loop μ-loop = c .before .before .before .before in
+    let k : tie.After-key-stream Inv-loop μ-loop = w .before .before in
+    let l : tie.At-loop Inv-loop μ-loop = k .before .before in
+    let e : l .loop .i ≡ 10 = omega arith in
+    rw (c .before .copy .ensures, w .write .ensures, k .key-stream .ensures, l .loop .inv .1, e, l .before .xor .ensures)
+
+pub mac-spec : {M : Type 1} → statement M
+mac-spec =
+    tie.close
+    (tie.spec
+    Inv-loop
+    μ-loop
+    (λ c. search needs)
+    (λ c. search needs)
+    (λ c. search needs)
+    (λ c. search needs)
+    (λ c κs. search needs)
+    (λ c. search needs)
+    loop-holds
+    (λ c κs. search needs)
+    (λ c κs. search needs)
+    (λ c. search needs)
+    (λ c. search needs)
+    loop-again
+    (λ c κs. search needs)
+    (λ c κs. search needs)
+    (λ c. search needs)
+    whole
+    enough
+    returns)

@@ -1,0 +1,85 @@
+// Bytes in buffers: a copy, a padded block, and the words that eight bytes make.
+ghost use mathlib.Core.Path.{_≡_};
+ghost use Prim.Native.Nat.{_+_, _≤_, _<_};
+ghost use lib.ListN.{length, take, drop, replicate};
+ghost use lib.Seq.{paste};
+ghost use Rattle.morus.specs.Bytes.{wordAt, bytesOf, padded};
+
+fn wide(x: u8) -> u64
+    ensures { λ r. ⌜ (r ≡ x) × (r < 256) ⌝ }
+{
+    x as u64
+}
+
+// The little-endian word of the eight bytes from byte `at` on. A sum of products, so that the back end makes one load of it.
+pub(crate) fn word_at(b: &[u8; 32], at: usize) -> u64
+    requires { ⌜ at ≤ 24 ⌝ }
+    ensures { λ r. ⌜ r ≡ wordAt (now (b .entry)) at ⌝ }
+{
+    let low = wide(b[at])
+        + 0x100 * wide(b[at + 1])
+        + 0x1_0000 * wide(b[at + 2])
+        + 0x100_0000 * wide(b[at + 3]);
+    let high = wide(b[at + 4])
+        + 0x100 * wide(b[at + 5])
+        + 0x1_0000 * wide(b[at + 6])
+        + 0x100_0000 * wide(b[at + 7]);
+    low + 0x1_0000_0000 * high
+}
+
+// The eight bytes of a word, lowest first.
+pub(crate) fn bytes_of(w: u64) -> [u8; 8]
+    ensures { λ r. ⌜ r ≡ bytesOf w ⌝ }
+{
+    [
+        (w % 256) as u8,
+        ((w >> 8) % 256) as u8,
+        ((w >> 16) % 256) as u8,
+        ((w >> 24) % 256) as u8,
+        ((w >> 32) % 256) as u8,
+        ((w >> 40) % 256) as u8,
+        ((w >> 48) % 256) as u8,
+        ((w >> 56) % 256) as u8,
+    ]
+}
+
+// `n` bytes of `src`, from byte `from` on, over those of `dst` from byte `at` on.
+pub(crate) fn copy(dst: &mut [u8], at: usize, src: &[u8], from: usize, n: usize)
+    requires { ⌜ (at + n ≤ length (now dst)) × (from + n ≤ length (now src)) ⌝ }
+    ensures { λ _. ⌜ now (dst .exit) ≡ paste (now (dst .entry)) at (drop from (now (src .entry))) n ⌝ }
+{
+    let mut i: usize = 0;
+    while i < n {
+        dst[at + i] = src[from + i];
+        i += 1;
+    }
+}
+
+// The block of `n` bytes of `m` from byte `i` on, with zeros behind them.
+pub(crate) fn block(m: &[u8], i: usize, n: usize) -> [u8; 32]
+    requires { ⌜ (i + n ≤ length (now m)) × (n ≤ 32) ⌝ }
+    ensures { λ r. ⌜ r ≡ padded 32 (take n (drop i (now (m .entry)))) ⌝ }
+{
+    let mut b = [0u8; 32];
+    copy(&mut b, 0, m, i, n);
+    b
+}
+
+// The first `n` bytes of the block `b` over those of `m` from byte `i` on.
+pub(crate) fn store(m: &mut [u8], i: usize, b: [u8; 32], n: usize)
+    requires { ⌜ (i + n ≤ length (now m)) × (n ≤ 32) ⌝ }
+    ensures { λ _. ⌜ now (m .exit) ≡ paste (now (m .entry)) i b n ⌝ }
+{
+    copy(m, i, &b, 0, n);
+}
+
+// Every byte of `b` becomes `v`.
+pub(crate) fn fill(b: &mut [u8], v: u8)
+    ensures { λ _. ⌜ now (b .exit) ≡ replicate (length (now (b .entry))) v ⌝ }
+{
+    let mut i: usize = 0;
+    while i < b.len() {
+        b[i] = v;
+        i += 1;
+    }
+}

@@ -1,0 +1,171 @@
+// The state: five lanes, and the steps that take it on.
+use crate::bytes::block;
+use crate::bytes::copy;
+use crate::lane::Lane;
+ghost use mathlib.Core.Path.{_≡_};
+ghost use Prim.Native.Nat.{_≤_, _<_, _^_};
+ghost use lib.ListN.{length};
+ghost use Rattle.morus.specs.Bytes.{padded, xorBytes};
+ghost use Rattle.morus.specs.Update.{firstSteps, lastSteps, update};
+ghost use Rattle.morus.specs.Start.{startWith, start};
+ghost use Rattle.morus.specs.Blocks.{keyStream, stream, sealing, opening};
+ghost use Rattle.morus.specs.Tag.{tag};
+
+pub(crate) struct State {
+    pub(crate) s: [Lane; 5],
+}
+
+impl State {
+    // Steps 1 to 3 of the update. The two halves stand apart so that the back end takes both in wherever they are called.
+    fn first(self, m: Lane) -> State
+        ensures { λ r. ⌜ r ≡ firstSteps self m ⌝ }
+    {
+        let s0 = self.s[0];
+        let s1 = self.s[1];
+        let s2 = self.s[2];
+        let s3 = self.s[3];
+        let s4 = self.s[4];
+        let t0 = s0.xor(s3).mix(13, s1, s2);
+        let t3 = s3.move1();
+        let t1 = s1.xor(m).xor(s4).mix(46, s2, t3);
+        let t4 = s4.move2();
+        let t2 = s2.xor(m).xor(t0).mix(38, t3, t4);
+        let u0 = t0.move3();
+        let t = [u0, t1, t2, t3, t4];
+        State { s: t }
+    }
+
+    // Steps 4 and 5.
+    fn last(self, m: Lane) -> State
+        ensures { λ r. ⌜ r ≡ lastSteps self m ⌝ }
+    {
+        let s0 = self.s[0];
+        let s1 = self.s[1];
+        let s2 = self.s[2];
+        let s3 = self.s[3];
+        let s4 = self.s[4];
+        let t3 = s3.xor(m).xor(s1).mix(7, s4, s0);
+        let t1 = s1.move2();
+        let t4 = s4.xor(m).xor(s2).mix(4, s0, t1);
+        let t2 = s2.move1();
+        let t = [s0, t1, t2, t3, t4];
+        State { s: t }
+    }
+
+    pub(crate) fn update(self, m: Lane) -> State
+        ensures { λ r. ⌜ r ≡ update self m ⌝ }
+    {
+        self.first(m).last(m)
+    }
+
+    fn key_stream(self) -> Lane
+        ensures { λ r. ⌜ r ≡ keyStream self ⌝ }
+    {
+        let s0 = self.s[0];
+        let s1 = self.s[1];
+        let s2 = self.s[2];
+        let s3 = self.s[3];
+        s0.xor(s1.move3()).xor(s2.and(s3))
+    }
+
+    // The start over the key lane `k` and the nonce lane `n`.
+    fn start(k: Lane, n: Lane) -> State
+        ensures { λ r. ⌜ r ≡ startWith k n ⌝ }
+    {
+        let zero = Lane { l: [0, 0, 0, 0] };
+        let ones = Lane {
+            l: [
+                0xffff_ffff_ffff_ffff,
+                0xffff_ffff_ffff_ffff,
+                0xffff_ffff_ffff_ffff,
+                0xffff_ffff_ffff_ffff,
+            ],
+        };
+        let c = Lane::from_bytes(
+            b"\x00\x01\x01\x02\x03\x05\x08\x0d\x15\x22\x37\x59\x90\xe9\x79\x62\xdb\x3d\x18\x55\x6d\xc2\x2f\xf1\x20\x11\x31\x42\x73\xb5\x28\xdd",
+        );
+        let t = [n, k, ones, zero, c];
+        let mut st = State { s: t };
+        let mut i: usize = 0;
+        while i < 16 {
+            st = st.first(zero).last(zero);
+            i += 1;
+        }
+        let s1 = st.s[1].xor(k);
+        st.s[1] = s1;
+        st
+    }
+
+    pub(crate) fn new(key: [u8; 16], nonce: [u8; 16]) -> State
+        ensures { λ r. ⌜ r ≡ start key nonce ⌝ }
+    {
+        let mut twice = [0u8; 32];
+        copy(&mut twice, 0, &key, 0, 16);
+        copy(&mut twice, 16, &key, 0, 16);
+        let n = block(&nonce, 0, 16);
+        State::start(Lane::from_bytes(&twice), Lane::from_bytes(&n))
+    }
+
+    // A block xored with the key stream.
+    fn masked(self, src: [u8; 32]) -> [u8; 32]
+        ensures { λ r. ⌜ r ≡ xorBytes src (stream self) ⌝ }
+    {
+        let mut x = [0u8; 32];
+        Lane::from_bytes(&src).xor(self.key_stream()).write(&mut x);
+        x
+    }
+
+    // A block of plaintext: its ciphertext into `dst`, and the state after it.
+    pub(crate) fn enc(self, dst: &mut [u8; 32], src: [u8; 32]) -> State
+        ensures { λ r. ⌜ (r ≡ sealing self src) × (now (dst .exit) ≡ xorBytes src (stream self)) ⌝ }
+    {
+        *dst = self.masked(src);
+        let p = Lane::from_bytes(&src);
+        self.first(p).last(p)
+    }
+
+    // A block of ciphertext: its plaintext into `dst`, and the state after it.
+    pub(crate) fn dec(self, dst: &mut [u8; 32], src: [u8; 32]) -> State
+        ensures { λ r. ⌜ (r ≡ opening self src) × (now (dst .exit) ≡ xorBytes src (stream self)) ⌝ }
+    {
+        let m = self.masked(src);
+        *dst = m;
+        let p = Lane::from_bytes(&m);
+        self.first(p).last(p)
+    }
+
+    // A last part of 1 to 31 bytes of ciphertext: its plaintext with zeros behind it into `dst`, and the state after it.
+    pub(crate) fn dec_partial(self, dst: &mut [u8; 32], src: &[u8]) -> State
+        requires { ⌜ (1 ≤ length (now src)) × (length (now src) ≤ 31) ⌝ }
+        ensures { λ r. ⌜ (r ≡ opening self (now (src .entry))) × (now (dst .exit) ≡ padded 32 (xorBytes (now (src .entry)) (stream self))) ⌝ }
+    {
+        let n = src.len();
+        let x = self.masked(block(src, 0, n));
+        let m = block(&x, 0, n);
+        *dst = m;
+        self.update(Lane::from_bytes(&m))
+    }
+
+    // The tag, where the data has `adlen` bytes and the message `mlen`: the length lane counts bits.
+    pub(crate) fn mac(self, adlen: usize, mlen: usize) -> [u8; 16]
+        requires { ⌜ (adlen < 2 ^ 61) × (mlen < 2 ^ 61) ⌝ }
+        ensures { λ r. ⌜ r ≡ tag self adlen mlen ⌝ }
+    {
+        let lens = Lane {
+            l: [8 * (adlen as u64), 8 * (mlen as u64), 0, 0],
+        };
+        let mut st = self;
+        let s4 = st.s[4].xor(st.s[0]);
+        st.s[4] = s4;
+        let mut i: usize = 0;
+        while i < 10 {
+            st = st.first(lens).last(lens);
+            i += 1;
+        }
+        let mut b = [0u8; 32];
+        st.key_stream().write(&mut b);
+        let mut tag = [0u8; 16];
+        copy(&mut tag, 0, &b, 0, 16);
+        tag
+    }
+}
