@@ -7,6 +7,9 @@ pub mod Lanes
 pub mod Bounds
 pub mod Streams
 pub mod Blockwise
+pub mod RoundTrip
 pub mod Numbers
 pub mod Same
 pub mod Promises
+pub mod Laws
+pub mod Determined

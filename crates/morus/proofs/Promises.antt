@@ -7,8 +7,8 @@ use native.Mathlib.Omega.{arith}
 use native.Mathlib.Nat.{zero-add}
 use lib.ListN.{length, take, drop, replicate, drop-of-length-le}
 use lib.Seq.{paste, take-length}
-use Rattle.morus.specs.declared.morus.Morus.{Morus}
-use Rattle.morus.specs.declared.morus.Sealed.{Sealed}
+use Rattle.morus.specs.declared.Morus.{Morus}
+use Rattle.morus.specs.declared.Sealed.{Sealed}
 use Rattle.morus.specs.Blocks.{absorbed, reabsorbed}
 use Rattle.morus.specs.Tag.{tag}
 use Rattle.morus.specs.Seal.{same, sealFrom, sealTagFrom, unsealFrom, acceptsFrom}

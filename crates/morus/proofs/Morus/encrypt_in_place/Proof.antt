@@ -5,8 +5,8 @@ use Rattle.morus.specs.Seal.{sealFrom, sealTagFrom}
 use Rattle.morus.proofs.Numbers.{Short, if-passed}
 use Rattle.morus.proofs.Promises.{seal-refused, seal-done}
 use borrow.Author.Needs.{needs}
-use Rattle.morus.proofs.morus.Morus.encrypt_in_place.Statement.{statement}
-use Rattle.morus.proofs.morus.Morus.encrypt_in_place.Tie as tie
+use Rattle.morus.proofs.Morus.encrypt_in_place.Statement.{statement}
+use Rattle.morus.proofs.Morus.encrypt_in_place.Tie as tie
 
 returns : tie.Need-returns
 returns c =

@@ -5,8 +5,8 @@ use lib.ListN.{length}
 use Rattle.morus.specs.Morus.{ifShort, ifFits}
 use Rattle.morus.proofs.Promises.{seal-refused, into-short, sealed-into, pasted-over}
 use borrow.Author.Needs.{needs}
-use Rattle.morus.proofs.morus.Morus.encrypt.Statement.{statement}
-use Rattle.morus.proofs.morus.Morus.encrypt.Tie as tie
+use Rattle.morus.proofs.Morus.encrypt.Statement.{statement}
+use Rattle.morus.proofs.Morus.encrypt.Tie as tie
 
 returns : tie.Need-returns
 returns c =

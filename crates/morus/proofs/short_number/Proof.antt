@@ -1,8 +1,8 @@
 -- Each `return` by the tests that led there.
 use borrow.Author.Tests.{le-leb, lt-leb}
 use borrow.Author.Needs.{needs}
-use Rattle.morus.proofs.morus.short_number.Statement.{statement}
-use Rattle.morus.proofs.morus.short_number.Tie as tie
+use Rattle.morus.proofs.short_number.Statement.{statement}
+use Rattle.morus.proofs.short_number.Tie as tie
 
 returns : tie.Need-returns
 returns c =

@@ -4,8 +4,8 @@ use Prim.Native.Nat.{_≤_, _-_}
 use native.Mathlib.Omega.{arith}
 use Rattle.morus.proofs.Same.{Gathered, gather-none, gather-more, gathered}
 use borrow.Author.Needs.{needs}
-use Rattle.morus.proofs.morus.same_tag.Statement.{statement}
-use Rattle.morus.proofs.morus.same_tag.Tie as tie
+use Rattle.morus.proofs.same_tag.Statement.{statement}
+use Rattle.morus.proofs.same_tag.Tie as tie
 
 abbrev Inv-loop : tie.InvT-loop
 Inv-loop a b acc₀ i₀ acc i = (i ≤ 16) × Gathered a b acc i

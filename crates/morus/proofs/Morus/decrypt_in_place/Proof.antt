@@ -9,8 +9,8 @@ use Rattle.morus.proofs.Blockwise.{length-bytes}
 use Rattle.morus.proofs.Numbers.{Short, if-passed}
 use Rattle.morus.proofs.Promises.{open-lengths, open-same, open-other}
 use borrow.Author.Needs.{needs}
-use Rattle.morus.proofs.morus.Morus.decrypt_in_place.Statement.{statement}
-use Rattle.morus.proofs.morus.Morus.decrypt_in_place.Tie as tie
+use Rattle.morus.proofs.Morus.decrypt_in_place.Statement.{statement}
+use Rattle.morus.proofs.Morus.decrypt_in_place.Tie as tie
 
 returns : tie.Need-returns
 returns c =

@@ -6,8 +6,8 @@ use Rattle.morus.specs.Morus.{ifShort, ifFits, ifAccepted}
 use Rattle.morus.proofs.Numbers.{fits-refused}
 use Rattle.morus.proofs.Promises.{open-lengths, into-short, opened-into, pasted-over}
 use borrow.Author.Needs.{needs}
-use Rattle.morus.proofs.morus.Morus.decrypt.Statement.{statement}
-use Rattle.morus.proofs.morus.Morus.decrypt.Tie as tie
+use Rattle.morus.proofs.Morus.decrypt.Statement.{statement}
+use Rattle.morus.proofs.Morus.decrypt.Tie as tie
 
 returns : tie.Need-returns
 returns c =

@@ -2,8 +2,8 @@
 use mathlib.Core.Path.{ap}
 use Rattle.morus.specs.Morus.{begun}
 use borrow.Author.Needs.{needs}
-use Rattle.morus.proofs.morus.Morus.new.Statement.{statement}
-use Rattle.morus.proofs.morus.Morus.new.Tie as tie
+use Rattle.morus.proofs.Morus.new.Statement.{statement}
+use Rattle.morus.proofs.Morus.new.Tie as tie
 
 returns : tie.Need-returns
 unfolding begun

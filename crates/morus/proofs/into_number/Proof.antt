@@ -4,8 +4,8 @@ use borrow.Author.Tests.{eq-eqb, ne-eqb}
 use Rattle.morus.specs.Morus.{ifFits}
 use Rattle.morus.proofs.Numbers.{Short, if-passed, if-refused}
 use borrow.Author.Needs.{needs}
-use Rattle.morus.proofs.morus.into_number.Statement.{statement}
-use Rattle.morus.proofs.morus.into_number.Tie as tie
+use Rattle.morus.proofs.into_number.Statement.{statement}
+use Rattle.morus.proofs.into_number.Tie as tie
 
 returns : tie.Need-returns
 returns c =

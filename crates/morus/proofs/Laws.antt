@@ -1,0 +1,110 @@
+-- Demand 2: what sealing and opening are to each other. What the crates above may use, beside the contracts.
+use mathlib.Core.Path.{_≡_, refl, ap, ap₂, sym, _∙_}
+use mathlib.Core.Bool.{Bool, true, false, cond}
+use mathlib.Core.List.{List, [], _∷_, _++_}
+use Prim.Native.Nat.{ℕ, zero, suc, _≤_, _<_, _^_}
+use native.Mathlib.Omega.{arith}
+use lib.ListN.{length, take, drop, replicate, length-take}
+use Rattle.morus.specs.declared.state.State.{State}
+use Rattle.morus.specs.declared.Sealed.{Sealed}
+use Rattle.morus.specs.Bytes.{Bytes, xorBytes}
+use Rattle.morus.specs.Start.{start}
+use Rattle.morus.specs.Blocks.{stream, blocks, sealing, opening, bytesN, bytesBy, absorbed, reabsorbed}
+use Rattle.morus.specs.Lane.{_⊕_}
+use Rattle.morus.specs.Update.{S0, S4, put, times}
+use Rattle.morus.specs.Tag.{lengths, tag}
+use Rattle.morus.specs.Seal.{same, sealFrom, sealTagFrom, unsealFrom, acceptsFrom, seal, sealTag, unseal, accepts}
+use Rattle.morus.specs.Morus.{begun, ifShort, ifAccepted, Encrypted, Decrypted}
+use Rattle.morus.proofs.AllBytes.{bytes-none, bytes-append, bytes-take, bytes-drop}
+use Rattle.morus.proofs.Bounds.{stream-bytes}
+use Rattle.morus.proofs.Xor.{xor-bytes}
+use Rattle.morus.proofs.Streams.{length-stream}
+use Rattle.morus.proofs.Blockwise.{length-bytes}
+use Rattle.morus.proofs.RoundTrip.{opening-undoes, sealing-undoes, undone}
+use Rattle.morus.proofs.Same.{same-self, same-true}
+use Rattle.morus.proofs.Numbers.{Short, short}
+use Rattle.morus.proofs.Promises.{sealing-done, opening-done, opening-refused}
+
+-- bytes stay bytes, whatever a block does to the state
+bytes-blocks : (f : State → List ℕ → State) (n : ℕ) (s : State) (b : List ℕ) → Bytes b → Bytes (bytesN f n s b)
+unfolding bytesN
+bytes-blocks f zero s b h = bytes-none
+bytes-blocks f (suc n) s b h =
+    bytes-append (xorBytes b (stream s)) (bytesN f n (f s b) (drop 32 b)) (xor-bytes b (stream s) h (stream-bytes s))
+    (bytes-blocks f n (f s b) (drop 32 b) (bytes-drop 32 b h))
+
+tag-long : (s : State) (d m : ℕ) → length (tag s d m) ≡ 16
+unfolding tag
+tag-long s d m = rw (length-take, length-stream)
+
+tag-all : (s : State) (d m : ℕ) → Bytes (tag s d m)
+unfolding tag
+tag-all s d m =
+    let last : State = times 10 (lengths d m) (put s 4 (S4 s ⊕ S0 s)) in
+    bytes-take 16 (stream last) (stream-bytes last)
+
+module _ (key nonce d : List ℕ) where
+  -- the ciphertext is as long as the message, the tag has 16 bytes, all are bytes
+  pub seal-length : (m : List ℕ) → length (seal key nonce d m) ≡ length m
+  unfolding seal sealFrom
+  seal-length m = length-bytes sealing _ m
+
+  pub unseal-length : (c : List ℕ) → length (unseal key nonce d c) ≡ length c
+  unfolding unseal unsealFrom
+  unseal-length c = length-bytes opening _ c
+
+  pub tag-length : (m : List ℕ) → length (sealTag key nonce d m) ≡ 16
+  unfolding sealTag sealTagFrom
+  tag-length m = tag-long _ _ _
+
+  pub seal-bytes : (m : List ℕ) → Bytes m → Bytes (seal key nonce d m)
+  unfolding seal sealFrom bytesBy
+  seal-bytes m h = bytes-blocks sealing (blocks m) _ m h
+
+  pub unseal-bytes : (c : List ℕ) → Bytes c → Bytes (unseal key nonce d c)
+  unfolding unseal unsealFrom bytesBy
+  unseal-bytes c h = bytes-blocks opening (blocks c) _ c h
+
+  pub tag-bytes : (m : List ℕ) → Bytes (sealTag key nonce d m)
+  unfolding sealTag sealTagFrom
+  tag-bytes m = tag-all (absorbed (absorbed (start key nonce) d) m) (length d) (length m)
+
+  -- opening what sealing gives is accepted and gives the message back
+  pub own : (m : List ℕ) → accepts key nonce d (seal key nonce d m) (sealTag key nonce d m) ≡ true
+  unfolding accepts acceptsFrom seal sealFrom sealTag sealTagFrom
+  own m = rw (undone opening-undoes (absorbed (start key nonce) d) m .1, length-bytes) (same-self _)
+
+  pub back : (m : List ℕ) → unseal key nonce d (seal key nonce d m) ≡ m
+  unfolding unseal unsealFrom seal sealFrom
+  back m = undone opening-undoes (absorbed (start key nonce) d) m .0
+
+  -- what opening accepts seals to exactly that ciphertext and tag again
+  pub only : (c t : List ℕ) → accepts key nonce d c t ≡ true
+      → (seal key nonce d (unseal key nonce d c) ≡ c) × (sealTag key nonce d (unseal key nonce d c) ≡ t)
+  unfolding accepts acceptsFrom unseal unsealFrom seal sealFrom sealTag sealTagFrom
+  only c t h =
+      let s : State = absorbed (start key nonce) d in (
+        undone sealing-undoes s c .0,
+        rw (undone sealing-undoes s c .1, length-bytes) (sym (same-true t _ h)),
+      )
+
+  -- it accepts exactly one tag, the defined one, in all of its bytes
+  pub exactly : (m t : List ℕ) → accepts key nonce d (seal key nonce d m) t ≡ true → t ≡ sealTag key nonce d m
+  exactly m t h = sym (only (seal key nonce d m) t h .1) ∙ ap (sealTag key nonce d) (back m)
+
+-- what a call gives, at lengths below 2^61
+module _ (nonce key : List ℕ) {d : List ℕ} where
+  pub encrypted : {m m' : List ℕ} {r : Sealed} → Encrypted (begun nonce key) d m r m' → length d < 2 ^ 61 → length m < 2 ^ 61
+      → (r .number ≡ 0) × (r .tag ≡ sealTag key nonce d m) × (m' ≡ seal key nonce d m)
+  unfolding begun sealTag seal
+  encrypted {m} e hd hm = sealing-done (rw (short (length d) (length m) hd hm .passes 0) at e)
+
+  pub opened : {c m' : List ℕ} {r : ℕ} (t : List ℕ) → Decrypted (begun nonce key) d c t r m' → length d < 2 ^ 61 → length c < 2 ^ 61
+      → accepts key nonce d c t ≡ true → (r ≡ 0) × (m' ≡ unseal key nonce d c)
+  unfolding begun accepts unseal
+  opened {c} t e hd hc h = opening-done (rw h at (rw (short (length d) (length c) hd hc .passes (ifAccepted (begun nonce key) d c t)) at e))
+
+  pub refused : {c m' : List ℕ} {r : ℕ} (t : List ℕ) → Decrypted (begun nonce key) d c t r m' → length d < 2 ^ 61 → length c < 2 ^ 61
+      → accepts key nonce d c t ≡ false → (r ≡ 1) × (m' ≡ replicate (length c) 170)
+  unfolding begun accepts
+  refused {c} t e hd hc h = opening-refused (rw h at (rw (short (length d) (length c) hd hc .passes (ifAccepted (begun nonce key) d c t)) at e))
