@@ -1,0 +1,28 @@
+-- `cases::arms::fill` is safe and ends. The invariant: the buffer keeps its length.
+-- Assumes nothing.
+use Prim.Native.Nat.{_≤_, _-_}
+use mathlib.Core.Path.{_≡_}
+use lib.ListN.{length}
+use borrow.Author.Needs.{needs}
+use Rattle.cases.proofs.arms.fill.Statement.{statement}
+use Rattle.cases.proofs.arms.fill.Tie as tie
+
+abbrev Inv-loop : tie.InvT-loop
+Inv-loop b₀ v i₀ b i = (i ≤ length b₀) × (length b ≡ length b₀)
+
+abbrev μ-loop : tie.MeasureT-loop
+μ-loop b₀ v i₀ b i = length b₀ - i
+
+pub fill-spec : {M : Type 1} → statement M
+fill-spec =
+    tie.close
+    (tie.spec
+    Inv-loop
+    μ-loop
+    (λ c. search needs)
+    (λ c. search needs)
+    (λ c. search needs)
+    (λ c. search needs)
+    (λ c. search needs)
+    (λ c. search needs)
+    (λ c. search needs))

@@ -1,0 +1,91 @@
+-- What the loops need, by the index: one more digit tested, one more byte read, one more byte written. By induction on the text or the bytes.
+-- Assumes nothing.
+use Prim.Native.Nat.{ℕ, zero, suc, _+_, _*_, _/_, _%_, _≤_, _<_}
+use mathlib.Core.Path.{_≡_, refl, sym, ap, _∙_}
+use mathlib.Core.Bool.{true, false, _&&_}
+use mathlib.Core.List.{List, [], _∷_, _++_}
+use native.Mathlib.Omega.{arith}
+use native.Mathlib.Nat.{zero-add}
+use native.Mathlib.Numerals.{add-one}
+use lib.ListN.{length, getD, drop, set, length-append, length-drop, drop-of-length-le}
+use lib.Seq.{drop-cons, length-take-le, paste-suc, take-all}
+use Rattle.hex.specs.Hex.{digitOf, hexOf, isDigit, allDigits, valueOf, unhex}
+use Rattle.hex.specs.Promise.{front}
+use Rattle.hex.proofs.Digit.{and-true, value}
+
+digits-step : (s : List ℕ) (i : ℕ) → i < length s → allDigits (drop i s) ≡ isDigit (getD s i 0) && allDigits (drop (i + 1) s)
+digits-step s i h = rw (add-one, drop-cons s i 0)
+
+-- the test of the text stops at a byte that is no digit, goes on at a digit, and ends well at the end
+module _ (s : List ℕ) (i : ℕ) (so-far : allDigits (drop i s) ≡ allDigits s) where
+  pub digits-stop : i < length s → isDigit (getD s i 0) ≡ false → false ≡ allDigits s
+  digits-stop h e = sym (sym so-far ∙ digits-step s i h ∙ rw e)
+
+  pub digits-go : i < length s → isDigit (getD s i 0) ≡ true → allDigits (drop (i + 1) s) ≡ allDigits s
+  digits-go h e = sym (sym so-far ∙ digits-step s i h ∙ rw e)
+
+  pub digits-end : length s ≤ i → true ≡ allDigits s
+  digits-end h = rw (drop-of-length-le s h) at so-far
+
+pub digit-at : (s : List ℕ) (i : ℕ) → allDigits s ≡ true → i < length s → isDigit (getD s i 0) ≡ true
+digit-at [] i d h = absurd (omega arith)
+digit-at (c ∷ cs) zero d h = and-true (isDigit c) (allDigits cs) d .0
+digit-at (c ∷ cs) (suc i) d h = digit-at cs i (and-true (isDigit c) (allDigits cs) d .1) (omega arith)
+
+pub small-at : (s : List ℕ) (i : ℕ) → allDigits s ≡ true → i < length s → valueOf (getD s i 0) < 16
+small-at s i d h = value (getD s i 0) (digit-at s i d h) .small
+
+pub unhex-length : (s : List ℕ) → length (unhex s) ≡ length s / 2
+unhex-length [] = refl
+unhex-length (a ∷ []) = refl
+unhex-length (a ∷ b ∷ r) = omega (arith, unhex-length r)
+
+pub unhex-at : (s : List ℕ) (i : ℕ) → 2 * i + 1 < length s → getD (unhex s) i 0 ≡ valueOf (getD s (2 * i) 0) * 16 + valueOf (getD s (2 * i + 1) 0)
+unhex-at [] i h = absurd (omega arith)
+unhex-at (a ∷ []) i h = absurd (omega arith)
+unhex-at (a ∷ b ∷ r) zero h = refl
+unhex-at (a ∷ b ∷ r) (suc i) h =
+    let e : 2 * suc i ≡ suc (suc (2 * i)) = omega arith in
+    let e′ : 2 * suc i + 1 ≡ suc (suc (2 * i + 1)) = omega arith in
+    rw (e′, e) (unhex-at r i (omega arith))
+
+pub hex-length : (f : List ℕ) → length (hexOf f) ≡ 2 * length f
+hex-length [] = refl
+hex-length (b ∷ bs) = omega (arith, hex-length bs)
+
+-- both digits of the byte at i
+pub hex-at : (f : List ℕ) (i : ℕ) → i < length f → (getD (hexOf f) (2 * i) 0 ≡ digitOf (getD f i 0 / 16)) × (getD (hexOf f) (2 * i + 1) 0 ≡ digitOf (getD f i 0 % 16))
+hex-at [] i h = absurd (omega arith)
+hex-at (b ∷ bs) zero h = (refl, refl)
+hex-at (b ∷ bs) (suc i) h =
+    let e : 2 * suc i ≡ suc (suc (2 * i)) = omega arith in
+    let e′ : 2 * suc i + 1 ≡ suc (suc (2 * i + 1)) = omega arith in
+    rw (e′, e) (hex-at bs i (omega arith))
+
+pub front-length : (k : ℕ) (new old now : List ℕ) → now ≡ front k new old → k ≤ length new → k ≤ length old → length now ≡ length old
+front-length k new old now e hn ho = rw e (simp (length-append, length-take-le, length-drop) (omega arith))
+
+-- all of the new bytes
+pub front-all : (k : ℕ) (new old : List ℕ) → length new ≡ k → front k new old ≡ new ++ drop k old
+front-all k new old e = rw (take-all k new (omega arith))
+
+pub front-more : (k : ℕ) (new old : List ℕ) → k < length new → k < length old → set (front k new old) k (getD new k 0) ≡ front (k + 1) new old
+front-more k new old hn ho = rw add-one (simp zero-add at (paste-suc old 0 new k 0 (omega arith) hn))
+
+-- one more byte is stored
+pub byte-stored : (text old b : List ℕ) (i high low : ℕ) → 2 * i + 1 < length text → i < length old → b ≡ front i (unhex text) old
+    → high ≡ valueOf (getD text (2 * i) 0) → low ≡ valueOf (getD text (2 * i + 1) 0) → set b i (high * 16 + low) ≡ front (i + 1) (unhex text) old
+byte-stored text old b i high low ht ho e eh el =
+    let hu : i < length (unhex text) = omega (arith, unhex-length text) in
+    rw (e, eh, el, ← unhex-at text i ht) (front-more i (unhex text) old hu ho)
+
+-- one more byte is written
+pub digits-written : (bytes old t : List ℕ) (i high low : ℕ) → i < length bytes → 2 * i + 1 < length old → t ≡ front (2 * i) (hexOf bytes) old
+    → high ≡ digitOf (getD bytes i 0 / 16) → low ≡ digitOf (getD bytes i 0 % 16) → set (set t (2 * i) high) (2 * i + 1) low ≡ front (2 * (i + 1)) (hexOf bytes) old
+digits-written bytes old t i high low hb ho e eh el =
+    let n : length (hexOf bytes) ≡ 2 * length bytes = hex-length bytes in
+    let k : 2 * (i + 1) ≡ 2 * i + 1 + 1 = omega arith in
+    let at = hex-at bytes i hb in
+    rw (e, eh, el, ← at .0, ← at .1, k)
+    (ap (λ (l : List ℕ). set l (2 * i + 1) (getD (hexOf bytes) (2 * i + 1) 0)) (front-more (2 * i) (hexOf bytes) old (omega arith) (omega arith))
+    ∙ front-more (2 * i + 1) (hexOf bytes) old (omega arith) ho)

@@ -1,0 +1,5 @@
+pub mod Digit
+pub mod Index
+pub mod Answers
+pub mod Determined
+pub mod Laws

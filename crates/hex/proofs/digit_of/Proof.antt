@@ -1,0 +1,16 @@
+-- `hex::digit_of` meets its contract: each branch by the law of the digit there.
+-- Assumes nothing.
+use mathlib.Core.Path.{sym}
+use Rattle.hex.proofs.Digit.{digit-low, digit-high}
+use borrow.Author.Needs.{needs}
+use Rattle.hex.proofs.digit_of.Statement.{statement}
+use Rattle.hex.proofs.digit_of.Tie as tie
+
+returns : tie.Need-returns
+returns c = sym (digit-low _ (c .if1 .taken))
+
+returns-2 : tie.Need-returns-2
+returns-2 c = sym (digit-high _ (c .if1 .left))
+
+pub digit-of-spec : {M : Type 1} → statement M
+digit-of-spec = tie.close (tie.spec (λ c. search needs) (λ c. search needs) returns returns-2)

@@ -1,0 +1,31 @@
+-- Bytes in lowercase hexadecimal, two digits for each, the high digit first; and back.
+-- Assumes nothing.
+use Prim.Native.Nat.{ℕ, _+_, _-_, _*_, _/_, _%_}
+use mathlib.Core.Bool.{Bool, true, cond, _&&_, _||_}
+use mathlib.Core.List.{List, [], _∷_}
+use lib.Dec.{leb, ltb}
+
+-- the digit of a value below 16: 0 to 9 are the bytes 48 to 57, a to f the bytes 97 to 102
+abbrev pub digitOf : ℕ → ℕ
+digitOf v = cond (ltb v 10) (48 + v) (87 + v)
+
+abbrev pub hexOf : List ℕ → List ℕ
+hexOf [] = []
+hexOf (b ∷ bs) = digitOf (b / 16) ∷ digitOf (b % 16) ∷ hexOf bs
+
+abbrev pub isDigit : ℕ → Bool
+isDigit c = leb 48 c && leb c 57 || leb 97 c && leb c 102
+
+abbrev pub allDigits : List ℕ → Bool
+allDigits [] = true
+allDigits (c ∷ cs) = isDigit c && allDigits cs
+
+-- the value of a digit; what stands for any other byte is never used
+abbrev pub valueOf : ℕ → ℕ
+valueOf c = cond (leb c 57) (c - 48) (c - 87)
+
+-- a last digit without a partner gives no byte
+abbrev pub unhex : List ℕ → List ℕ
+unhex [] = []
+unhex (a ∷ []) = []
+unhex (a ∷ b ∷ r) = (valueOf a * 16 + valueOf b) ∷ unhex r
