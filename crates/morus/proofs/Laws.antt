@@ -6,6 +6,7 @@ use Prim.Native.Nat.{ℕ, zero, suc, _≤_, _<_, _^_}
 use native.Mathlib.Omega.{arith}
 use lib.ListN.{length, take, drop, replicate, length-take}
 use Rattle.morus.specs.declared.state.State.{State}
+use Rattle.morus.specs.declared.Morus.{Morus}
 use Rattle.morus.specs.declared.Sealed.{Sealed}
 use Rattle.morus.specs.Bytes.{Bytes, xorBytes}
 use Rattle.morus.specs.Start.{start}
@@ -13,8 +14,9 @@ use Rattle.morus.specs.Blocks.{stream, blocks, sealing, opening, bytesN,
 use Rattle.morus.specs.Lane.{_⊕_}
 use Rattle.morus.specs.Update.{S0, S4, put, times}
 use Rattle.morus.specs.Tag.{lengths, tag}
-use Rattle.morus.specs.Seal.{same, sealFrom, sealTagFrom, unsealFrom, acceptsFrom, seal, sealTag, unseal, accepts}
-use Rattle.morus.specs.Morus.{begun, ifShort, ifAccepted, Encrypted, Decrypted}
+use Rattle.morus.specs.Seal.{same, sealFrom, sealTagFrom, unsealFrom, unsealTagFrom, acceptsFrom, seal, sealTag, unseal, accepts}
+use Rattle.morus.specs.Morus.{begun, ifShort, ifFits, ifAccepted, Encrypted, Decrypted, EncryptedInto, DecryptedInto}
+use borrow.Author.Tests.{eq-eqb}
 use Rattle.morus.proofs.AllBytes.{bytes-none, bytes-append, bytes-take, bytes-drop}
 use Rattle.morus.proofs.Bounds.{stream-bytes}
 use Rattle.morus.proofs.Xor.{xor-bytes}
@@ -23,7 +25,7 @@ use Rattle.morus.proofs.Blockwise.{length-bytes}
 use Rattle.morus.proofs.RoundTrip.{opening-undoes, sealing-undoes, undone}
 use Rattle.morus.proofs.Same.{same-self, same-true}
 use Rattle.morus.proofs.Numbers.{Short, short}
-use Rattle.morus.proofs.Promises.{sealing-done, opening-done, opening-refused}
+use Rattle.morus.proofs.Promises.{sealing-done, opening-done, opening-refused, reopened}
 
 -- bytes stay bytes, whatever a block does to the state
 bytes-blocks : (f : State → List ℕ → State) (n : ℕ) (s : State) (b : List ℕ) → Bytes b → Bytes (bytesN f n s b)
@@ -71,7 +73,7 @@ module _ (key nonce d : List ℕ) where
 
   -- opening what sealing gives is accepted and gives the message back
   pub own : (m : List ℕ) → accepts key nonce d (seal key nonce d m) (sealTag key nonce d m) ≡ true
-  unfolding accepts acceptsFrom seal sealFrom sealTag sealTagFrom
+  unfolding accepts acceptsFrom unsealTagFrom seal sealFrom sealTag sealTagFrom
   own m = rw (undone opening-undoes (absorbed (start key nonce) d) m .1, length-bytes) (same-self _)
 
   pub back : (m : List ℕ) → unseal key nonce d (seal key nonce d m) ≡ m
@@ -81,7 +83,7 @@ module _ (key nonce d : List ℕ) where
   -- what opening accepts seals to exactly that ciphertext and tag again
   pub only : (c t : List ℕ) → accepts key nonce d c t ≡ true
       → (seal key nonce d (unseal key nonce d c) ≡ c) × (sealTag key nonce d (unseal key nonce d c) ≡ t)
-  unfolding accepts acceptsFrom unseal unsealFrom seal sealFrom sealTag sealTagFrom
+  unfolding accepts acceptsFrom unsealTagFrom unseal unsealFrom seal sealFrom sealTag sealTagFrom
   only c t h =
       let s : State = absorbed (start key nonce) d in (
         undone sealing-undoes s c .0,
@@ -108,3 +110,19 @@ module _ (nonce key : List ℕ) {d : List ℕ} where
       → accepts key nonce d c t ≡ false → (r ≡ 1) × (m' ≡ replicate (length c) 170)
   unfolding begun accepts
   refused {c} t e hd hc h = opening-refused (rw h at (rw (short (length d) (length c) hd hc .passes (ifAccepted (begun nonce key) d c t)) at e))
+
+  -- into a second buffer of the right length it is as in place
+  pub encrypted-into : {m out' : List ℕ} {r : Sealed} (out : List ℕ) → length out ≡ length m → EncryptedInto (begun nonce key) d m out r out'
+      → length d < 2 ^ 61 → length m < 2 ^ 61 → (r .number ≡ 0) × (r .tag ≡ sealTag key nonce d m) × (out' ≡ seal key nonce d m)
+  unfolding begun sealTag seal
+  encrypted-into {m} out e s hd hm =
+      sealing-done (rw (short (length d) (length m) hd hm .passes (ifFits (length m) (length out) 0), eq-eqb (length out) (length m) e) at s)
+
+pub opened-alike : (w : Morus) (d c t out : List ℕ) {r : ℕ} {out' : List ℕ} → length out ≡ length c
+    → DecryptedInto w d c t out r out' → Decrypted w d c t r out'
+opened-alike w d c t out e s = reopened _ c (sym e) (rw (eq-eqb (length out) (length c) e) at s)
+
+-- the tag is judged as `accepts` says
+pub accepted-by : (nonce key d c t : List ℕ) → acceptsFrom (begun nonce key .0) d c t ≡ accepts key nonce d c t
+unfolding begun accepts
+accepted-by nonce key d c t = refl

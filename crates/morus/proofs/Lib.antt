@@ -13,3 +13,4 @@ pub mod Same
 pub mod Promises
 pub mod Laws
 pub mod Determined
+pub mod Examples

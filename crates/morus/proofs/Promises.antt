@@ -9,9 +9,7 @@ use lib.ListN.{length, take, drop, replicate, drop-of-length-le}
 use lib.Seq.{paste, take-length}
 use Rattle.morus.specs.declared.Morus.{Morus}
 use Rattle.morus.specs.declared.Sealed.{Sealed}
-use Rattle.morus.specs.Blocks.{absorbed, reabsorbed}
-use Rattle.morus.specs.Tag.{tag}
-use Rattle.morus.specs.Seal.{same, sealFrom, sealTagFrom, unsealFrom, acceptsFrom}
+use Rattle.morus.specs.Seal.{same, sealFrom, sealTagFrom, unsealFrom, unsealTagFrom, acceptsFrom}
 use Rattle.morus.specs.Morus.{ifShort, ifFits, ifAccepted, tagAt, sealedAt, openedAt, Sealing, Opening}
 use borrow.Author.Tests.{eq-eqb}
 use Rattle.morus.proofs.Numbers.{Short, if-passed, if-refused, fits-passed, fits-refused}
@@ -82,7 +80,7 @@ open-lengths w d c out x y en h alike eo =
 
 -- Judged by the tag.
 module _ (w : Morus) (d c t out : List ℕ) (p : Short (length d) (length c)) {own : List ℕ}
-    (eo : own ≡ tag (reabsorbed (absorbed (w .0) d) c) (length d) (length c)) where
+    (eo : own ≡ unsealTagFrom (w .0) d c) where
   judged : (b : Bool) → same t own ≡ b → ifShort (length d) (length c) (ifAccepted w d c t) ≡ cond b 0 1
   unfolding acceptsFrom
   judged b e = rw (p .passes (ifAccepted w d c t), ← eo, e)

@@ -28,8 +28,11 @@ module _ (s : State) (d : List ℕ) where
   unsealFrom c = uncovered (absorbed s d) c
 
   -- the tag over the message that the ciphertext gives
+  unfoldable pub unsealTagFrom : (c : List ℕ) → List ℕ
+  unsealTagFrom c = tag (reabsorbed (absorbed s d) c) (length d) (length c)
+
   unfoldable pub acceptsFrom : (c t : List ℕ) → Bool
-  acceptsFrom c t = same t (tag (reabsorbed (absorbed s d) c) (length d) (length c))
+  acceptsFrom c t = same t (unsealTagFrom c)
 
 module _ (key nonce d : List ℕ) where
   -- the ciphertext of a message, and its tag

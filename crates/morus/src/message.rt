@@ -29,17 +29,17 @@ impl State {
         ensures { λ r. ⌜ (r ≡ absorbed self (now (mc .entry))) × (now (mc .exit) ≡ covered self (now (mc .entry))) ⌝ }
     {
         let mut st = self;
-        let mut dst = [0u8; 32];
+        let mut sealed = [0u8; 32];
         let mut i: usize = 0;
         while 32 <= mc.len() - i {
-            st = st.enc(&mut dst, block(mc, i, 32));
-            store(mc, i, dst, 32);
+            st = st.enc(&mut sealed, block(mc, i, 32));
+            store(mc, i, sealed, 32);
             i += 32;
         }
         if i < mc.len() {
             let n = mc.len() - i;
-            let end = st.enc(&mut dst, block(mc, i, n));
-            store(mc, i, dst, n);
+            let end = st.enc(&mut sealed, block(mc, i, n));
+            store(mc, i, sealed, n);
             return end;
         }
         st
@@ -50,17 +50,17 @@ impl State {
         ensures { λ r. ⌜ (r ≡ reabsorbed self (now (mc .entry))) × (now (mc .exit) ≡ uncovered self (now (mc .entry))) ⌝ }
     {
         let mut st = self;
-        let mut dst = [0u8; 32];
+        let mut opened = [0u8; 32];
         let mut i: usize = 0;
         while 32 <= mc.len() - i {
-            st = st.dec(&mut dst, block(mc, i, 32));
-            store(mc, i, dst, 32);
+            st = st.dec(&mut opened, block(mc, i, 32));
+            store(mc, i, opened, 32);
             i += 32;
         }
         if i < mc.len() {
             let n = mc.len() - i;
-            let end = st.dec_partial(&mut dst, &mc[i..]);
-            store(mc, i, dst, n);
+            let end = st.dec_partial(&mut opened, &mc[i..]);
+            store(mc, i, opened, n);
             return end;
         }
         st

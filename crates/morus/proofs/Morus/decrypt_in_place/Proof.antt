@@ -2,9 +2,10 @@
 use mathlib.Core.Path.{_≡_, refl, sym, ap, _∙_}
 use mathlib.Core.List.{List}
 use Prim.Native.Nat.{ℕ}
+use native.Mathlib.Omega.{arith}
 use lib.ListN.{length, replicate}
 use Rattle.morus.specs.Blocks.{opening}
-use Rattle.morus.specs.Seal.{unsealFrom}
+use Rattle.morus.specs.Seal.{unsealFrom, unsealTagFrom}
 use Rattle.morus.proofs.Blockwise.{length-bytes}
 use Rattle.morus.proofs.Numbers.{Short, if-passed}
 use Rattle.morus.proofs.Promises.{open-lengths, open-same, open-other}
@@ -23,10 +24,10 @@ passed l = if-passed _ _ 0 (sym (l .before .short-number .ensures) ∙ l .if1 .l
 mac-requires : tie.Need-mac-requires
 mac-requires c κs =
     let p = passed (c .before .before .before .before .before) in
-    (p .data-short, p .text-short)
+    (omega (arith, p .data-short, p .text-short), omega (arith, p .data-short, p .text-short))
 
 returns-2 : tie.Need-returns-2
-unfolding unsealFrom
+unfolding unsealFrom unsealTagFrom
 returns-2 c =
     let m : tie.After-mac = c .before .before in
     let u : tie.After-uncover = m .before .before .before in
@@ -34,6 +35,7 @@ returns-2 c =
     open-same _ _ _ _ _ (passed (a .before)) (rw (m .mac .ensures, u .uncover .ensures .0, a .absorb .ensures)) (sym (c .before .same-tag .ensures) ∙ c .if2 .taken) (rw (u .uncover .ensures .1, a .absorb .ensures))
 
 returns-3 : tie.Need-returns-3
+unfolding unsealTagFrom
 returns-3 c =
     let e : tie.Else2 = c .before .before .before .before in
     let m : tie.After-mac = e .before .before in
