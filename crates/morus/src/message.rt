@@ -1,6 +1,7 @@
 // Data and messages, block after block: whole blocks, then the last part.
 use crate::bytes::block;
 use crate::bytes::store;
+use crate::lane::Lane;
 use crate::state::State;
 ghost use mathlib.Core.Path.{_≡_};
 ghost use Rattle.morus.specs.Blocks.{covered, absorbed, uncovered, reabsorbed};
@@ -24,20 +25,23 @@ impl State {
         st
     }
 
-    // Seals the message in place, and gives the state after it.
+    // Seals the message in place, and gives the state after it. A whole block is what `enc` does, written out: the back
+    // end would call `enc`, and hand the state over in memory.
     pub(crate) fn cover(self, mc: &mut [u8]) -> State
         ensures { λ r. ⌜ (r ≡ absorbed self (now (mc .entry))) × (now (mc .exit) ≡ covered self (now (mc .entry))) ⌝ }
     {
         let mut st = self;
-        let mut sealed = [0u8; 32];
         let mut i: usize = 0;
         while 32 <= mc.len() - i {
-            st = st.enc(&mut sealed, block(mc, i, 32));
-            store(mc, i, sealed, 32);
+            let src = block(mc, i, 32);
+            store(mc, i, st.masked(src), 32);
+            let p = Lane::from_bytes(&src);
+            st = st.first(p).last(p);
             i += 32;
         }
         if i < mc.len() {
             let n = mc.len() - i;
+            let mut sealed = [0u8; 32];
             let end = st.enc(&mut sealed, block(mc, i, n));
             store(mc, i, sealed, n);
             return end;

@@ -17,7 +17,7 @@ pub(crate) struct State {
 
 impl State {
     // Steps 1 to 3 of the update. The two halves stand apart so that the back end takes both in wherever they are called.
-    fn first(self, m: Lane) -> State
+    pub(crate) fn first(self, m: Lane) -> State
         ensures { λ r. ⌜ r ≡ firstSteps self m ⌝ }
     {
         let s0 = self.s[0];
@@ -36,7 +36,7 @@ impl State {
     }
 
     // Steps 4 and 5.
-    fn last(self, m: Lane) -> State
+    pub(crate) fn last(self, m: Lane) -> State
         ensures { λ r. ⌜ r ≡ lastSteps self m ⌝ }
     {
         let s0 = self.s[0];
@@ -107,7 +107,7 @@ impl State {
     }
 
     // A block xored with the key stream.
-    fn masked(self, src: [u8; 32]) -> [u8; 32]
+    pub(crate) fn masked(self, src: [u8; 32]) -> [u8; 32]
         ensures { λ r. ⌜ r ≡ xorBytes src (stream self) ⌝ }
     {
         let mut x = [0u8; 32];

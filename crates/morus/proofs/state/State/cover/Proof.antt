@@ -3,6 +3,7 @@ use mathlib.Core.Path.{_≡_, refl}
 use Prim.Native.Nat.{_+_, _-_}
 use native.Mathlib.Omega.{arith}
 use lib.ListN.{length}
+use Rattle.morus.specs.Update.{update}
 use Rattle.morus.specs.Blocks.{sealing}
 use Rattle.morus.proofs.Blockwise.{Going, cover-on, gone}
 use borrow.Author.Needs.{needs}
@@ -10,28 +11,30 @@ use Rattle.morus.proofs.state.State.cover.Statement.{statement}
 use Rattle.morus.proofs.state.State.cover.Tie as tie
 
 abbrev Inv-loop : tie.InvT-loop
-Inv-loop mc₀ st₀ dst₀ i₀ mc st dst i = Going sealing st₀ mc₀ st mc i
+Inv-loop mc₀ st₀ i₀ mc st i = Going sealing st₀ mc₀ st mc i
 
 abbrev μ-loop : tie.MeasureT-loop
-μ-loop mc₀ st₀ dst₀ i₀ mc st dst i = length mc - i
+μ-loop mc₀ st₀ i₀ mc st i = length mc - i
 
 loop-holds : tie.Need-loop-holds Inv-loop μ-loop
 loop-holds c =
     record { within = omega arith; same = refl; bytes = refl; state = refl }
 
 loop-again : tie.Need-loop-again Inv-loop μ-loop
+unfolding sealing update
 loop-again c =
-    let e : tie.After-enc Inv-loop μ-loop = c .before .before .before .before in
-    let l : tie.At-loop Inv-loop μ-loop = e .before .before .before .before .before in
-    cover-on (l .loop .inv) (omega arith) (omega arith) (e .before .block .ensures) (e .enc .ensures) (c .before .before .store .ensures)
+    let f : tie.After-from-bytes Inv-loop μ-loop = c .before .before in
+    let w : tie.After-store Inv-loop μ-loop = f .before .before .before .before in
+    let b : tie.After-block Inv-loop μ-loop = w .before .before .before in
+    cover-on (b .before .before .before .loop .inv) (omega arith) (omega arith) (b .block .ensures) (rw (c .last .ensures, c .before .first .ensures, f .from-bytes .ensures), w .before .masked .ensures) (w .store .ensures)
 
 returns : tie.Need-returns Inv-loop μ-loop
 returns c =
-    let e : tie.After-enc2 Inv-loop μ-loop = c .before .before .before .before in
+    let e : tie.After-enc Inv-loop μ-loop = c .before .before .before .before in
     let t : tie.Then1 Inv-loop μ-loop = e .before .before .before .before in
     let l : tie.At-loop Inv-loop μ-loop = t .before .before in
     gone
-    (cover-on {n = length (l .loop .mc) - l .loop .i} (l .loop .inv) (t .if1 .taken) (omega arith) (e .before .block2 .ensures) (e .enc2 .ensures) (c .before .before .store2 .ensures))
+    (cover-on {n = length (l .loop .mc) - l .loop .i} (l .loop .inv) (t .if1 .taken) (omega arith) (e .before .block2 .ensures) (e .enc .ensures) (c .before .before .store2 .ensures))
     (omega arith)
 
 returns-2 : tie.Need-returns-2 Inv-loop μ-loop
@@ -46,6 +49,9 @@ cover-spec =
     μ-loop
     loop-holds
     (λ c. search needs)
+    (λ c κs. search needs)
+    (λ c κs. search needs)
+    (λ c κs. search needs)
     (λ c κs. search needs)
     (λ c κs. search needs)
     (λ c κs. search needs)
