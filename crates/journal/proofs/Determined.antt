@@ -1,0 +1,19 @@
+-- Any two outcomes that a promise allows coincide: each is what the definition says.
+use Prim.Native.Nat.{ℕ}
+use mathlib.Core.Path.{_≡_, sym, _∙_}
+use mathlib.Core.List.{List}
+use Rattle.journal.specs.declared.Answer.{Answer}
+use Rattle.journal.specs.declared.Line.{Line}
+use Rattle.journal.specs.Promise.{LineWritten, LineRead}
+
+pub write-line : {key nonce ad message line line₁ line₂ : List ℕ} {r₁ r₂ : Line}
+    → LineWritten key nonce ad message line r₁ line₁
+    → LineWritten key nonce ad message line r₂ line₂
+    → (r₁ ≡ r₂) × (line₁ ≡ line₂)
+write-line a b = (a .report ∙ sym (b .report), a .buffer ∙ sym (b .buffer))
+
+pub read-line : {journal key frame frame₁ frame₂ : List ℕ} {place : ℕ} {r₁ r₂ : Answer}
+    → LineRead journal place key frame r₁ frame₁
+    → LineRead journal place key frame r₂ frame₂
+    → (r₁ ≡ r₂) × (frame₁ ≡ frame₂)
+read-line a b = (a .answer ∙ sym (b .answer), a .buffer ∙ sym (b .buffer))

@@ -1,0 +1,129 @@
+-- Demand 3, the second half: a line is opened exactly if the sealing made it, and what went in is handed out.
+use Prim.Native.Nat.{ℕ, _+_, _%_}
+use mathlib.Core.Path.{_≡_, sym, ap, _∙_}
+use mathlib.Core.Bool.{true}
+use mathlib.Core.List.{List, [], _∷_, _++_}
+use native.Mathlib.Omega.{arith}
+use lib.ListN.{length, drop}
+use lib.Seq.{take-append-seam}
+use borrow.Author.Tests.{eq-eqb, leb-true, leb-false, eqb-true}
+use Rattle.morus.specs.Bytes.{Bytes}
+use Rattle.morus.specs.Seal.{seal, sealTag, unseal, accepts}
+use Rattle.morus.proofs.Laws.{seal-length, seal-bytes, tag-length, tag-bytes, unseal-length, unseal-bytes, own, back, only}
+use Rattle.hex.specs.Hex.{hexOf, unhex}
+use Rattle.hex.proofs.Laws.{coded, decoded}
+use Rattle.journal.specs.Frame.{nIn, mIn, nonceIn, adIn, cipherIn, tagIn}
+use Rattle.journal.specs.Line.{newline, textOf, frameOf, lineOf, Fits, Made}
+use Rattle.journal.specs.Tests.{firstFailing}
+use Rattle.journal.specs.Reader.{textTests, frameTests, tagTests, lineTests, opened, openedFrame, given, readText}
+use Rattle.journal.specs.Claims.{handed}
+use Rattle.journal.proofs.Tests.{must, AllPass, zero-pass}
+use Rattle.journal.proofs.Newline.{Plain, newlineAt-plain, no-newline}
+use Rattle.journal.proofs.Frame.{bytes-cons, bytes-append, bytes-take, bytes-drop, Parts, parts, sound}
+use Rattle.journal.proofs.Rows.{text-passes, frame-passes}
+use Rattle.journal.proofs.Sizes.{frame-size}
+use Rattle.journal.proofs.Progress.{numbered}
+
+-- the digits of a frame have no newline, so a line's text is the digits
+pub digits-plain : (f : List ℕ) → Bytes f → Plain (hexOf f)
+digits-plain f h = no-newline (hexOf f) (coded f h .plain)
+
+text-back : (f : List ℕ) → Bytes f → textOf (hexOf f ++ (newline ∷ [])) ≡ hexOf f
+text-back f h = rw (newlineAt-plain (hexOf f) [] (digits-plain f h)) (take-append-seam (hexOf f) (newline ∷ []))
+
+module _ (key : List ℕ) where
+  -- what the sealing makes of nonce, data and message
+  pub record Sealed (nonce ad message : List ℕ) : Type 0 where
+    pub bytes : Bytes (frameOf key nonce ad message)
+    pub len : length (frameOf key nonce ad message) ≡ 33 + length ad + length message
+    pub are : Parts (frameOf key nonce ad message) nonce ad (seal key nonce ad message) (sealTag key nonce ad message)
+
+  pub is-sealed : (nonce ad message : List ℕ) → Fits nonce ad message → Sealed nonce ad message
+  is-sealed nonce ad message F =
+      let c = seal key nonce ad message in
+      let t = sealTag key nonce ad message in
+      record {
+        bytes = bytes-append nonce _ (F .nonceBytes) (bytes-cons (ad ++ (c ++ t)) (omega (arith, F .ad64)) (bytes-append ad _ (F .adBytes) (bytes-append c t (seal-bytes key nonce ad message (F .messageBytes)) (tag-bytes key nonce ad message))));
+        len = frame-size key nonce ad message (F .nonce16);
+        are = parts nonce ad c t (F .nonce16) (tag-length key nonce ad message);
+      }
+
+  -- a line that the sealing made is opened
+  module _ (nonce ad message : List ℕ) (F : Fits nonce ad message) where
+    abbrev f : List ℕ
+    f = frameOf key nonce ad message
+
+    S : Sealed nonce ad message
+    S = is-sealed nonce ad message F
+
+    text-pass : AllPass (textTests (hexOf f))
+    unfolding textTests
+    text-pass =
+        let K = coded f (S .bytes) in
+        (must (λ e. omega (arith, leb-false, K .len, S .len, F .ad64, F .message256)), (K .digits, (eq-eqb (length (hexOf f) % 2) 0 (omega (arith, K .len)), tt)))
+
+    rows-pass : AllPass (frameTests f)
+    unfolding frameTests
+    rows-pass =
+        let n = S .are .nIs in
+        let m = S .are .mIs ∙ seal-length key nonce ad message in
+        let l = S .len in
+        (must (λ e. omega (arith, leb-false)), (must (λ e. omega (arith, leb-false, F .ad64)), (must (λ e. omega (arith, leb-false)), (must (λ e. omega (arith, leb-false, F .message256)), tt))))
+
+    tag-passes : (next size : ℕ) → given key f next size (firstFailing (tagTests key f)) ≡ handed key nonce ad message next size
+    unfolding firstFailing tagTests given openedFrame handed
+    tag-passes next size =
+        let P = S .are in
+        let a : accepts key (nonceIn f) (adIn f) (cipherIn f) (tagIn f) ≡ true = rw (P .tagIs, P .bodyIs, P .adIs, P .nonceIs) (own key nonce ad message) in
+        rw (a, P .tagIs, P .bodyIs, P .adIs, P .nonceIs, P .mIs, P .nIs, back key nonce ad message, seal-length key nonce ad message)
+
+    pub line-opens : (next size : ℕ) → readText key (hexOf f) next size ≡ handed key nonce ad message next size
+    line-opens next size =
+        text-passes key (hexOf f) next size text-pass
+        ∙ rw (coded f (S .bytes) .back) (frame-passes key f next size rows-pass ∙ tag-passes next size)
+
+  -- a text that is opened is one that the sealing made
+  pub opened-made : (text : List ℕ) → firstFailing (lineTests key text) ≡ 0 → Made key (text ++ (newline ∷ []))
+  unfolding lineTests textTests frameTests tagTests
+  opened-made text e =
+      let f = unhex text in
+      let p : AllPass (lineTests key text) = zero-pass (lineTests key text) (numbered key text) e in
+      let q = p .1 .1 .1 in
+      let n64 = q .1 .0 in
+      let long = q .1 .1 .0 in
+      let m256 = q .1 .1 .1 .0 in
+      let D = decoded text (p .1 .0) (eqb-true (length text % 2) 0 (p .1 .1 .0)) in
+      let S = sound f (omega (arith, leb-true)) in
+      let o = only key (nonceIn f) (adIn f) (cipherIn f) (tagIn f) (q .1 .1 .1 .1 .0) in
+      let rest = bytes-drop (nIn f) (drop 17 f) (bytes-drop 17 f (D .bytes)) in
+      record {
+        nonce = nonceIn f;
+        ad = adIn f;
+        message = unseal key (nonceIn f) (adIn f) (cipherIn f);
+        fits = record {
+          nonce16 = S .nonce16;
+          ad64 = omega (arith, leb-true, S .adLength);
+          message256 = omega (arith, leb-true, S .bodyLength, unseal-length key (nonceIn f) (adIn f) (cipherIn f));
+          nonceBytes = bytes-take 16 f (D .bytes);
+          adBytes = bytes-take (nIn f) (drop 17 f) (bytes-drop 17 f (D .bytes));
+          messageBytes = unseal-bytes key (nonceIn f) (adIn f) (cipherIn f) (bytes-take (mIn f) (drop (nIn f) (drop 17 f)) rest);
+        };
+        is = rw (o .0, o .1, S .whole, D .back);
+      }
+
+  -- a line is made from one nonce, data and message only
+  pub made-once : (nonce ad message nonce′ ad′ message′ : List ℕ) → Fits nonce ad message → Fits nonce′ ad′ message′ → lineOf key nonce ad message ≡ lineOf key nonce′ ad′ message′
+      → (nonce ≡ nonce′) × (ad ≡ ad′) × (message ≡ message′)
+  made-once nonce ad message nonce′ ad′ message′ F F′ e =
+      let f = frameOf key nonce ad message in
+      let f′ = frameOf key nonce′ ad′ message′ in
+      let S = is-sealed nonce ad message F in
+      let S′ = is-sealed nonce′ ad′ message′ F′ in
+      let K = coded f (S .bytes) in
+      let K′ = coded f′ (S′ .bytes) in
+      let h : hexOf f ≡ hexOf f′ = sym (text-back f (S .bytes)) ∙ ap textOf e ∙ text-back f′ (S′ .bytes) in
+      let q : f ≡ f′ = sym (K .back) ∙ ap unhex h ∙ K′ .back in
+      let n : nonce ≡ nonce′ = sym (S .are .nonceIs) ∙ ap nonceIn q ∙ S′ .are .nonceIs in
+      let a : ad ≡ ad′ = sym (S .are .adIs) ∙ ap adIn q ∙ S′ .are .adIs in
+      let c : seal key nonce ad message ≡ seal key nonce′ ad′ message′ = sym (S .are .bodyIs) ∙ ap cipherIn q ∙ S′ .are .bodyIs in
+      (n, a, sym (back key nonce ad message) ∙ (rw (c, n, a) (back key nonce′ ad′ message′)))

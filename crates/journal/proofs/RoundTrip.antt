@@ -1,0 +1,113 @@
+-- What the writer writes, the reader opens: the line at the front of the buffer is the line of its nonce, data and message, and such a line is opened.
+use Prim.Native.Nat.{ℕ, zero, suc, _+_, _-_, _≤_}
+use mathlib.Core.Path.{_≡_, refl, sym, ap, _∙_}
+use mathlib.Core.List.{List, [], _∷_, _++_, map}
+use native.Mathlib.Omega.{arith}
+use native.Mathlib.Nat.{add-zero}
+use lib.ListN.{length, take, drop, replicate, length-append}
+use lib.Seq.{take-at, append-snoc}
+use borrow.Author.Tests.{leb-true}
+use Rattle.morus.specs.Bytes.{Bytes}
+use Rattle.morus.specs.Seal.{sealTag}
+use Rattle.morus.proofs.Laws.{tag-length}
+use Rattle.hex.specs.Hex.{hexOf}
+use Rattle.journal.specs.declared.Answer.{Answer}
+use Rattle.journal.specs.declared.Line.{Line}
+use Rattle.journal.specs.Frame.{frameWith}
+use Rattle.journal.specs.Line.{newline, frameOf, lineOf, lineLength, Fits}
+use Rattle.journal.specs.Writer.{writerTests, writerNumber, writing, writeInto}
+use Rattle.journal.specs.Reader.{Reading, opened, readAt}
+use Rattle.journal.specs.Run.{entry, run, shift, shiftEntry, answersFrom}
+use Rattle.journal.specs.Claims.{handed}
+use Rattle.journal.specs.Promise.{LineWritten, LineRead}
+use Rattle.journal.proofs.Tests.{AllPass, zero-pass}
+use Rattle.journal.proofs.Newline.{Plain}
+use Rattle.journal.proofs.Shift.{read-shift}
+use Rattle.journal.proofs.Frame.{frame-length}
+use Rattle.journal.proofs.Made.{digits-plain, is-sealed, line-opens}
+use Rattle.journal.proofs.Sizes.{line-size}
+use Rattle.journal.proofs.Run.{at-line, one-line}
+use Rattle.journal.proofs.Damage.{isolated, shifts}
+
+handed-shift : (key nonce ad message : List ℕ) (d next size : ℕ) → shift d (handed key nonce ad message next size) ≡ handed key nonce ad message (d + next) size
+unfolding shift handed opened
+handed-shift key nonce ad message d next size = refl
+
+-- ---- what was written
+
+writing-number : (line old : List ℕ) (size k : ℕ) → writing line old size k .report .number ≡ k
+unfolding writing
+writing-number line old size zero = refl
+writing-number line old size (suc k) = refl
+
+module _ {key nonce ad message line line' : List ℕ} {r : Line} (len : length nonce ≡ 16) (bn : Bytes nonce) (ba : Bytes ad) (bm : Bytes message) (w : LineWritten key nonce ad message line r line') (z : r .number ≡ 0) where
+  number : writerNumber (length ad) (length message) (length line) ≡ 0
+  unfolding writeInto
+  number = sym (writing-number (lineOf key nonce ad message) line (lineLength (length ad) (length message)) (writerNumber (length ad) (length message) (length line))) ∙ sym (ap (λ (a : Line). a .number) (w .report)) ∙ z
+
+  fits : Fits nonce ad message
+  unfolding writerNumber writerTests
+  fits =
+      let p : AllPass (writerTests (length ad) (length message) (length line)) = zero-pass (writerTests (length ad) (length message) (length line)) (tt, (tt, (tt, tt))) number in
+      record {
+        nonce16 = len;
+        ad64 = leb-true (length ad) 64 (p .0);
+        message256 = leb-true (length message) 256 (p .1 .0);
+        nonceBytes = bn;
+        adBytes = ba;
+        messageBytes = bm;
+      }
+
+  -- the line stands at the front, and its length was reported
+  pub size-is : r .length ≡ length (lineOf key nonce ad message)
+  unfolding writeInto writing
+  size-is = ap (λ (a : Line). a .length) (w .report) ∙ rw number (sym (line-size key nonce ad message len))
+
+  pub front-is : take (r .length) line' ≡ lineOf key nonce ad message
+  unfolding writeInto writing
+  front-is = rw (w .buffer, number) (take-at (lineOf key nonce ad message) (drop (lineLength (length ad) (length message)) line) (r .length) (sym size-is))
+
+  -- ---- and is read
+
+  digits-length : length (hexOf (frameOf key nonce ad message)) + 1 ≡ r .length
+  digits-length = omega (arith, size-is, length-append (hexOf (frameOf key nonce ad message)) (newline ∷ []))
+
+  journal-is : (T : List ℕ) → take (r .length) line' ++ T ≡ hexOf (frameOf key nonce ad message) ++ newline ∷ T
+  journal-is T = rw front-is (append-snoc (hexOf (frameOf key nonce ad message)) newline T)
+
+  plain : Plain (hexOf (frameOf key nonce ad message))
+  plain = digits-plain (frameOf key nonce ad message) (is-sealed key nonce ad message fits .bytes)
+
+  module _ (size : ℕ) (big : 353 ≤ size) where
+    -- from any place at which it stands
+    pub read-anywhere : (P T : List ℕ) → readAt key (P ++ (take (r .length) line' ++ T)) (length P) size ≡ handed key nonce ad message (length P + r .length) size
+    read-anywhere P T =
+        ap (λ (p : ℕ). readAt key (P ++ (take (r .length) line' ++ T)) p size) (sym (add-zero (length P)))
+        ∙ read-shift key size P (take (r .length) line' ++ T) 0
+        ∙ rw (journal-is T, at-line key size big (hexOf (frameOf key nonce ad message)) T plain, line-opens key nonce ad message fits, digits-length) (handed-shift key nonce ad message (length P) (r .length) size)
+
+    -- in the run, at the start of a journal
+    pub run-first : (T : List ℕ) → run key (take (r .length) line' ++ T) size ≡ entry 0 (handed key nonce ad message (r .length) size) ∷ map (shiftEntry (r .length)) (run key T size)
+    run-first T = rw (journal-is T, one-line key size big (hexOf (frameOf key nonce ad message)) T plain, line-opens key nonce ad message fits, digits-length)
+
+    -- in the run, after any newline
+    pub run-after : (A T : List ℕ)
+        → answersFrom (length A + 1) (run key (A ++ newline ∷ (take (r .length) line' ++ T)) size)
+        ≡ entry (length A + 1) (handed key nonce ad message (length A + 1 + r .length) size) ∷ map (shiftEntry (length A + 1 + r .length)) (run key T size)
+    unfolding shiftEntry
+    run-after A T =
+        isolated key size big A (take (r .length) line' ++ T)
+        ∙ rw (run-first T, handed-shift, add-zero, shifts (length A + 1) (r .length) (length A + 1 + r .length) (run key T size) refl)
+
+  -- by what the reader promises: the same nonce, data and message, and 170 behind them
+  pub handed-out : {frame frame' : List ℕ} {a : Answer} (P T : List ℕ) → 353 ≤ length frame
+      → LineRead (P ++ (take (r .length) line' ++ T)) (length P) key frame a frame'
+      → (a ≡ record { number = 0; next = length P + r .length; n = length ad; m = length message })
+      × (frame' ≡ frameWith nonce ad message (sealTag key nonce ad message) ++ replicate (length frame - (33 + length ad + length message)) 170)
+  unfolding handed opened
+  handed-out {frame} P T big h =
+      let k : length (frameWith nonce ad message (sealTag key nonce ad message)) ≡ 33 + length ad + length message = omega (arith, frame-length nonce ad message (sealTag key nonce ad message), tag-length key nonce ad message) in
+      let e = read-anywhere (length frame) big P T in (
+        h .answer ∙ ap (λ (x : Reading). x .answer) e,
+        h .buffer ∙ ap (λ (x : Reading). x .buffer) e ∙ rw k,
+      )

@@ -1,0 +1,50 @@
+-- Reading behind a front is reading without it, with the places shifted; and the run likewise.
+use Prim.Native.Nat.{ℕ, zero, suc, _+_}
+use mathlib.Core.Path.{_≡_, refl, ap, _∙_}
+use mathlib.Core.Bool.{Bool, true, false, cond}
+use mathlib.Core.List.{List, [], _∷_, _++_, map}
+use native.Mathlib.Nat.{add-assoc, suc-add, zero-add}
+use lib.ListN.{length, length-append}
+use lib.Seq.{drop-append-add}
+use lib.Dec.{leb, ltb, eqb, leb·suc-suc, eqb·suc-suc}
+use Rattle.journal.specs.Reader.{Reading, refused, opened, given, readText, readAt}
+use Rattle.journal.specs.Run.{Entry, entry, runFrom, run, shift, shiftEntry}
+
+leb-add : (d a b : ℕ) → leb (d + a) (d + b) ≡ leb a b
+leb-add zero a b = rw (zero-add a, zero-add b)
+leb-add (suc d) a b = rw (suc-add d a, suc-add d b) (leb·suc-suc (d + a) (d + b) ∙ leb-add d a b)
+
+ltb-add : (d a b : ℕ) → ltb (d + a) (d + b) ≡ ltb a b
+ltb-add zero a b = rw (zero-add a, zero-add b)
+ltb-add (suc d) a b = rw (suc-add d a, suc-add d b) (leb·suc-suc (suc (d + a)) (d + b) ∙ ltb-add d a b)
+
+pub eqb-add : (d a b : ℕ) → eqb (d + a) (d + b) ≡ eqb a b
+eqb-add zero a b = rw (zero-add a, zero-add b)
+eqb-add (suc d) a b = rw (suc-add d a, suc-add d b) (eqb·suc-suc (d + a) (d + b) ∙ eqb-add d a b)
+
+cond-shift : (d : ℕ) (b : Bool) (x y : Reading) → shift d (cond b x y) ≡ cond b (shift d x) (shift d y)
+cond-shift d true x y = refl
+cond-shift d false x y = refl
+
+refused-shift : (d k next size : ℕ) → shift d (refused k next size) ≡ refused k (d + next) size
+unfolding shift refused
+refused-shift d k next size = refl
+
+given-shift : (key f : List ℕ) (d next size k : ℕ) → shift d (given key f next size k) ≡ given key f (d + next) size k
+unfolding shift given opened refused
+given-shift key f d next size zero = refl
+given-shift key f d next size (suc k) = refl
+
+module _ (key : List ℕ) (size : ℕ) (a b : List ℕ) where
+  pub read-shift : (p : ℕ) → readAt key (a ++ b) (length a + p) size ≡ shift (length a) (readAt key b p size)
+  unfolding readAt readText
+  read-shift p = simp (length-append, drop-append-add, ltb-add, eqb-add, cond-shift, refused-shift, given-shift, add-assoc)
+
+  pub run-shift : (k p : ℕ) → runFrom key (a ++ b) size k (length a + p) ≡ map (shiftEntry (length a)) (runFrom key b size k p)
+  unfolding runFrom shiftEntry shift
+  run-shift zero p = refl
+  run-shift (suc k) p = rw (read-shift p) (ap (λ (l : List Entry). shiftEntry (length a) (entry p (readAt key b p size)) ∷ l) (go (eqb (readAt key b p size .answer .number) 14) (run-shift k (readAt key b p size .answer .next))))
+    where
+      go : (t : Bool) → runFrom key (a ++ b) size k (length a + readAt key b p size .answer .next) ≡ map (shiftEntry (length a)) (runFrom key b size k (readAt key b p size .answer .next)) → cond t [] (runFrom key (a ++ b) size k (length a + readAt key b p size .answer .next)) ≡ map (shiftEntry (length a)) (cond t [] (runFrom key b size k (readAt key b p size .answer .next)))
+      go true ih = refl
+      go false ih = ih

@@ -1,0 +1,27 @@
+-- A frame is nonce (16), data count n (1), data (n), ciphertext (m), tag (16); its parts are found by n and its length.
+-- `ad` is the data: the word itself is taken.
+use Prim.Native.Nat.{ℕ, _+_, _-_}
+use mathlib.Core.List.{List, _∷_, _++_}
+use lib.ListN.{length, getD, take, drop}
+
+-- with the ciphertext as its body, or with the message where the ciphertext stood
+abbrev pub frameWith : (nonce ad body tag : List ℕ) → List ℕ
+frameWith nonce ad body tag = nonce ++ (length ad ∷ (ad ++ (body ++ tag)))
+
+abbrev pub nIn : List ℕ → ℕ
+nIn f = getD f 16 0
+
+abbrev pub mIn : List ℕ → ℕ
+mIn f = length f - (33 + nIn f)
+
+abbrev pub nonceIn : List ℕ → List ℕ
+nonceIn f = take 16 f
+
+abbrev pub adIn : List ℕ → List ℕ
+adIn f = take (nIn f) (drop 17 f)
+
+abbrev pub cipherIn : List ℕ → List ℕ
+cipherIn f = take (mIn f) (drop (nIn f) (drop 17 f))
+
+abbrev pub tagIn : List ℕ → List ℕ
+tagIn f = drop (mIn f) (drop (nIn f) (drop 17 f))

@@ -1,0 +1,8 @@
+pub mod Frame
+pub mod Line
+pub mod Tests
+pub mod Writer
+pub mod Reader
+pub mod Run
+pub mod Claims
+pub mod Promise

@@ -1,0 +1,30 @@
+-- Writing puts the line at the front of the lent line buffer, keeps the bytes behind it, and reports its length.
+use Prim.Native.Nat.{ℕ, zero, suc}
+use mathlib.Core.List.{List, [], _∷_, _++_}
+use lib.ListN.{length, drop}
+use lib.Dec.{leb}
+use Rattle.journal.specs.declared.Line.{Line}
+use Rattle.journal.specs.Line.{lineOf, lineLength}
+use Rattle.journal.specs.Tests.{Test, firstFailing}
+
+-- the report, and the line buffer afterwards
+pub record Writing : Type 0 where
+  pub report : Line
+  pub buffer : List ℕ
+
+-- the writer's order, for a line buffer of `room` bytes
+unfoldable pub writerTests : (n m room : ℕ) → List Test
+writerTests n m room = (leb n 64, 8) ∷ (leb m 256, 10) ∷ (leb (lineLength n m) room, 15) ∷ []
+
+unfoldable pub writerNumber : (n m room : ℕ) → ℕ
+writerNumber n m room = firstFailing (writerTests n m room)
+
+-- by the number
+unfoldable pub writing : (line old : List ℕ) → (size number : ℕ) → Writing
+writing line old size zero = record { report = record { number = 0; length = size }; buffer = line ++ drop size old }
+writing line old size (suc k) = record { report = record { number = suc k; length = 0 }; buffer = old }
+
+unfoldable pub writeInto : (key nonce ad message old : List ℕ) → Writing
+writeInto key nonce ad message old =
+    writing (lineOf key nonce ad message) old (lineLength (length ad) (length message))
+    (writerNumber (length ad) (length message) (length old))

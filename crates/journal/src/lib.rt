@@ -1,0 +1,22 @@
+// The line journal: sealed frames in lowercase hexadecimal, one to a line.
+mod bytes;
+mod numbers;
+mod reader;
+mod writer;
+
+pub use reader::read_line;
+pub use writer::write_line;
+
+// What writing reports: a number, and the line's length.
+pub struct Line {
+    pub number: u8,
+    pub length: usize,
+}
+
+// What reading answers: a number, the next place, and how many bytes of data and of message there are.
+pub struct Answer {
+    pub number: u8,
+    pub next: usize,
+    pub n: usize,
+    pub m: usize,
+}

@@ -1,0 +1,42 @@
+// The sizes of a frame and a line, and the numbers given back.
+
+pub const NEWLINE: u8 = 0x0a;
+
+pub const FILL: u8 = 0xaa;
+
+// Nonce, tag and the byte n: what a frame has beside data and message.
+pub const FIXED: usize = 33;
+
+pub const MOST_DATA: usize = 64;
+
+pub const MOST_MESSAGE: usize = 256;
+
+pub const MOST_FRAME: usize = 353;
+
+pub const MOST_DIGITS: usize = 706;
+
+pub const DONE: u8 = 0;
+
+pub const LINE_TOO_LONG: u8 = 4;
+
+pub const NOT_DIGIT: u8 = 5;
+
+pub const ODD: u8 = 6;
+
+pub const FRAME_TOO_SHORT: u8 = 7;
+
+pub const DATA_TOO_LONG: u8 = 8;
+
+pub const DATA_PAST_FRAME: u8 = 9;
+
+pub const MESSAGE_TOO_LONG: u8 = 10;
+
+pub const NO_NEWLINE: u8 = 11;
+
+pub const PLACE_BEYOND: u8 = 12;
+
+pub const BUFFER_TOO_SMALL: u8 = 13;
+
+pub const END: u8 = 14;
+
+pub const LINE_TOO_SMALL: u8 = 15;

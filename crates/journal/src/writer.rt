@@ -1,0 +1,78 @@
+// Writing a line into a lent line buffer.
+use crate::Line;
+use crate::bytes::copy;
+use crate::numbers::DATA_TOO_LONG;
+use crate::numbers::DONE;
+use crate::numbers::FIXED;
+use crate::numbers::LINE_TOO_SMALL;
+use crate::numbers::MESSAGE_TOO_LONG;
+use crate::numbers::MOST_DATA;
+use crate::numbers::MOST_MESSAGE;
+use crate::numbers::NEWLINE;
+use hex::Written;
+use morus::Key;
+use morus::Morus;
+use morus::Nonce;
+ghost use mathlib.Core.Path.{_≡_};
+ghost use Prim.Native.Nat.{_+_, _≤_};
+ghost use mathlib.Core.List.{_++_};
+ghost use lib.ListN.{length, drop};
+ghost use Rattle.journal.specs.Line.{frameOf};
+ghost use Rattle.journal.specs.Promise.{LineWritten};
+
+// The sealed frame, at the front of the buffer.
+fn seal_frame(key: Key, nonce: Nonce, data: &[u8], message: &[u8], frame: &mut [u8])
+    requires { ⌜ (length (now «data») ≤ 64) × (length (now message) ≤ 256) × (353 ≤ length (now frame)) ⌝ }
+    ensures { λ _. ⌜ now (frame .exit) ≡ frameOf key nonce (now («data» .entry)) (now (message .entry)) ++ drop (33 + length (now («data» .entry)) + length (now (message .entry))) (now (frame .entry)) ⌝ }
+{
+    let n = data.len();
+    let m = message.len();
+    let start = 17 + n;
+    let end = start + m;
+    copy(frame, 0, &nonce, 0, 16);
+    frame[16] = n as u8;
+    copy(frame, 17, data, 0, n);
+    copy(frame, start, message, 0, m);
+    let sealed = Morus::new(nonce, key).encrypt_in_place(&mut frame[start..end], data);
+    let tag = sealed.tag;
+    copy(frame, end, &tag, 0, 16);
+}
+
+pub fn write_line(key: Key, nonce: Nonce, data: &[u8], message: &[u8], line: &mut [u8]) -> Line
+    ensures { λ r. ⌜ LineWritten key nonce (now («data» .entry)) (now (message .entry)) (now (line .entry)) r (now (line .exit)) ⌝ }
+{
+    if MOST_DATA < data.len() {
+        return Line {
+            number: DATA_TOO_LONG,
+            length: 0,
+        };
+    }
+    if MOST_MESSAGE < message.len() {
+        return Line {
+            number: MESSAGE_TOO_LONG,
+            length: 0,
+        };
+    }
+    let count = FIXED + data.len() + message.len();
+    if line.len() < 2 * count + 1 {
+        return Line {
+            number: LINE_TOO_SMALL,
+            length: 0,
+        };
+    }
+    let mut frame = [0u8; 353];
+    seal_frame(key, nonce, data, message, &mut frame);
+    match hex::write(&frame[..count], line) {
+        Written::Digits(digits) => {
+            line[digits] = NEWLINE;
+            Line {
+                number: DONE,
+                length: digits + 1,
+            }
+        }
+        Written::NoRoom => Line {
+            number: LINE_TOO_SMALL,
+            length: 0,
+        },
+    }
+}
