@@ -34,9 +34,91 @@ fn opened(number: u8, text: &[u8]) -> String {
     format!("{} {}", number, digits(text))
 }
 
+/// The journal, written from document 01's table and nothing of ours: number, length and buffer of `write`.
+fn write(key: [u8; 16], nonce: [u8; 16], data: &[u8], message: &[u8], size: usize) -> String {
+    let mut buffer = vec![BEFORE; size];
+    let needed = 2 * (33 + data.len() + message.len()) + 1;
+    let number = if data.len() > 64 {
+        8
+    } else if message.len() > 256 {
+        10
+    } else if size < needed {
+        15
+    } else {
+        0
+    };
+    if number != 0 {
+        return format!("{} 0 {}", number, digits(&buffer));
+    }
+    let (text, tag) = Morus::new(&nonce, &key).encrypt(message, data);
+    let frame = [&nonce[..], &[data.len() as u8], data, &text, &tag].concat();
+    let line: String = frame.iter().map(|b| format!("{:02x}", b)).collect::<String>() + "\n";
+    buffer[..needed].copy_from_slice(line.as_bytes());
+    format!("0 {} {}", needed, digits(&buffer))
+}
+
+/// Number, next place, n, m and the frame buffer of `read`.
+fn read(key: [u8; 16], place: u64, size: usize, journal: &[u8]) -> String {
+    let refused = |number: u8, next: u64| format!("{} {} 0 0 {}", number, next, digits(&vec![REFUSED; size]));
+    let length = journal.len() as u64;
+    if size < 353 {
+        return refused(13, place);
+    }
+    if place > length {
+        return refused(12, place);
+    }
+    if place == length {
+        return refused(14, place);
+    }
+    let rest = &journal[place as usize..];
+    let text = match rest.iter().position(|&b| b == b'\n') {
+        None => return refused(11, length),
+        Some(end) => &rest[..end],
+    };
+    let next = place + text.len() as u64 + 1;
+    if text.len() > 706 {
+        return refused(4, next);
+    }
+    if text.iter().any(|b| !b"0123456789abcdef".contains(b)) {
+        return refused(5, next);
+    }
+    if text.len() % 2 == 1 {
+        return refused(6, next);
+    }
+    let frame = bytes(std::str::from_utf8(text).expect("digits"));
+    if frame.len() < 33 {
+        return refused(7, next);
+    }
+    let n = frame[16] as usize;
+    if n > 64 {
+        return refused(8, next);
+    }
+    if 33 + n > frame.len() {
+        return refused(9, next);
+    }
+    let m = frame.len() - 33 - n;
+    if m > 256 {
+        return refused(10, next);
+    }
+    let nonce: [u8; 16] = frame[..16].try_into().unwrap();
+    let tag: [u8; 16] = frame[17 + n + m..].try_into().unwrap();
+    let data = &frame[17..17 + n];
+    match Morus::new(&nonce, &key).decrypt(&frame[17 + n..17 + n + m], &tag, data) {
+        Err(_) => refused(1, next),
+        Ok(message) => {
+            let mut buffer = [&nonce[..], &[n as u8], data, &message, &tag].concat();
+            buffer.resize(size, REFUSED);
+            format!("0 {} {} {} {}", next, n, m, digits(&buffer))
+        }
+    }
+}
+
 fn answer(line: &str) -> String {
     let w: Vec<&str> = line.split(' ').collect();
     let key = sixteen(w[1]);
+    if w[0] == "read" {
+        return read(key, w[2].parse().expect("a place"), w[3].parse().expect("a size"), &bytes(w[4]));
+    }
     let nonce = sixteen(w[2]);
     let data = bytes(w[3]);
     let mut text = bytes(w[4]);
@@ -70,6 +152,7 @@ fn answer(line: &str) -> String {
                 Err(_) => opened(1, &vec![REFUSED; size]),
             }
         }
+        "write" => write(key, nonce, &data, &text, w[5].parse().expect("a size")),
         name => panic!("no such case: {}", name),
     }
 }

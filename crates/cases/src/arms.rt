@@ -1,6 +1,7 @@
 // One function for each kind of case: it takes the words apart, makes the call and puts the answer.
 use crate::output::put;
 use crate::output::put_bytes;
+use crate::output::put_next;
 use crate::output::put_number;
 use crate::output::refuse;
 use crate::words::Words;
@@ -55,6 +56,8 @@ fn choose(
         2 => open(line, w, h, data, text, output, at),
         3 => seal2(line, w, h, data, text, buffer, output, at),
         4 => open2(line, w, h, data, text, buffer, output, at),
+        5 => write(line, w, h, data, text, buffer, output, at),
+        6 => read(line, w, h, text, buffer, output, at),
         _ => refuse(output, at),
     }
 }
@@ -71,6 +74,12 @@ fn kind_of(name: &[u8]) -> u8 {
     }
     if check::same(name, b"open2") {
         return 4;
+    }
+    if check::same(name, b"write") {
+        return 5;
+    }
+    if check::same(name, b"read") {
+        return 6;
     }
     0
 }
@@ -264,4 +273,98 @@ fn open_into(
     fill(buffer, BEFORE);
     let r = Morus::new(nonce, key).decrypt(text, tag, data, buffer);
     put_opened(r, buffer, output, at)
+}
+
+// write KEY NONCE DATA MESSAGE SIZE
+fn write(
+    line: &[u8],
+    w: Words,
+    h: Head,
+    data: &[u8],
+    text: &[u8],
+    buffer: &mut [u8],
+    output: &mut [u8],
+    at: usize,
+) -> usize {
+    let size = number_of(word(line, w, 5));
+    let k = size.value;
+    if h.good & size.good & (w.count == 6) {
+        if k <= buffer.len() {
+            return write_into(
+                h,
+                front(data, h.n),
+                front(text, h.m),
+                &mut buffer[0..k],
+                output,
+                at,
+            );
+        }
+    }
+    refuse(output, at)
+}
+
+fn write_into(
+    h: Head,
+    data: &[u8],
+    text: &[u8],
+    buffer: &mut [u8],
+    output: &mut [u8],
+    at: usize,
+) -> usize {
+    let nonce = h.nonce;
+    let key = h.key;
+    fill(buffer, BEFORE);
+    let r = journal::write_line(key, nonce, data, text, buffer);
+    let a = put_number(output, at, r.number as u64);
+    let b = put_next(output, a, r.length as u64);
+    let c = put_bytes(output, b, buffer);
+    put(output, c, b'\n')
+}
+
+// read KEY PLACE SIZE JOURNAL: the journal is word 4, as an opening's text is.
+fn read(
+    line: &[u8],
+    w: Words,
+    h: Head,
+    text: &[u8],
+    buffer: &mut [u8],
+    output: &mut [u8],
+    at: usize,
+) -> usize {
+    let key = sixteen_of(word(line, w, 1));
+    let place = number_of(word(line, w, 2));
+    let size = number_of(word(line, w, 3));
+    let k = size.value;
+    if key.good & place.good & size.good & (h.m <= text.len()) & (w.count == 5) {
+        if k <= buffer.len() {
+            return read_into(
+                h,
+                place.value,
+                front(text, h.m),
+                &mut buffer[0..k],
+                output,
+                at,
+            );
+        }
+    }
+    refuse(output, at)
+}
+
+fn read_into(
+    h: Head,
+    place: usize,
+    text: &[u8],
+    buffer: &mut [u8],
+    output: &mut [u8],
+    at: usize,
+) -> usize {
+    let key = h.key;
+    fill(buffer, BEFORE);
+    let r = journal::read_line(text, place, key, buffer);
+    let a = put_number(output, at, r.number as u64);
+    let b = put_next(output, a, r.next as u64);
+    let c = put_next(output, b, r.n as u64);
+    let d = put_next(output, c, r.m as u64);
+    let e = put_bytes(output, d, buffer);
+    put(output, e, b'\n')
 }

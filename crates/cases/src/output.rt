@@ -46,6 +46,12 @@ pub(crate) fn put_number(output: &mut [u8], at: usize, n: u64) -> usize {
     put_text(output, at, &digits[..k])
 }
 
+// A space and a number.
+pub(crate) fn put_next(output: &mut [u8], at: usize, n: u64) -> usize {
+    let next = put(output, at, b' ');
+    put_number(output, next, n)
+}
+
 // A space and the digits of the bytes, `-` for none.
 pub(crate) fn put_bytes(output: &mut [u8], at: usize, bytes: &[u8]) -> usize {
     let from = put(output, at, b' ');

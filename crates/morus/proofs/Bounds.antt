@@ -78,13 +78,13 @@ sound-of {a} {b} {c} {d} {e} ha hb hc hd he = record { words = at }
     at (suc (suc (suc (suc (suc j))))) = record { below = λ i. omega arith }
 
 -- one step's lane: a xor (c & d), turned
-mixed : {a c d : Lane} (k : ℕ) → k < 64 → Words a → Words c → Words d → Words (turned k (a ⊕ (c & d)))
-mixed k h ha hc hd = turned-words (xor-words ha (and-words hc hd)) k h
+mixed : {a c d : Lane} (k : ℕ) → Words a → Words c → Words d → k < 64 → Words (turned k (a ⊕ (c & d)))
+mixed k ha hc hd h = turned-words (xor-words ha (and-words hc hd)) k h
 
 module _ {s : State} (h : Sound s) where
   sound1 : Sound (step1 s)
   unfolding step1
-  sound1 = sound-of (mixed 13 (omega arith) (xor-words (h .words 0) (h .words 3)) (h .words 1) (h .words 2)) (h .words 1) (h .words 2) (moved-words (h .words 3) 1) (h .words 4)
+  sound1 = sound-of (mixed _ (xor-words (h .words 0) (h .words 3)) (h .words 1) (h .words 2) (omega arith)) (h .words 1) (h .words 2) (moved-words (h .words 3) 1) (h .words 4)
 
   module _ {m : Lane} (hm : Words m) where
     -- the xor before the brackets: lane i, then M, then lane j
@@ -93,19 +93,19 @@ module _ {s : State} (h : Sound s) where
 
     sound2 : Sound (step2 m s)
     unfolding step2
-    sound2 = sound-of (h .words 0) (mixed 46 (omega arith) (before 1 4) (h .words 2) (h .words 3)) (h .words 2) (h .words 3) (moved-words (h .words 4) 2)
+    sound2 = sound-of (h .words 0) (mixed _ (before 1 4) (h .words 2) (h .words 3) (omega arith)) (h .words 2) (h .words 3) (moved-words (h .words 4) 2)
 
     sound3 : Sound (step3 m s)
     unfolding step3
-    sound3 = sound-of (moved-words (h .words 0) 3) (h .words 1) (mixed 38 (omega arith) (before 2 0) (h .words 3) (h .words 4)) (h .words 3) (h .words 4)
+    sound3 = sound-of (moved-words (h .words 0) 3) (h .words 1) (mixed _ (before 2 0) (h .words 3) (h .words 4) (omega arith)) (h .words 3) (h .words 4)
 
     sound4 : Sound (step4 m s)
     unfolding step4
-    sound4 = sound-of (h .words 0) (moved-words (h .words 1) 2) (h .words 2) (mixed 7 (omega arith) (before 3 1) (h .words 4) (h .words 0)) (h .words 4)
+    sound4 = sound-of (h .words 0) (moved-words (h .words 1) 2) (h .words 2) (mixed _ (before 3 1) (h .words 4) (h .words 0) (omega arith)) (h .words 4)
 
     sound5 : Sound (step5 m s)
     unfolding step5
-    sound5 = sound-of (h .words 0) (h .words 1) (moved-words (h .words 2) 1) (h .words 3) (mixed 4 (omega arith) (before 4 2) (h .words 0) (h .words 1))
+    sound5 = sound-of (h .words 0) (h .words 1) (moved-words (h .words 2) 1) (h .words 3) (mixed _ (before 4 2) (h .words 0) (h .words 1) (omega arith))
 
 pub update-sound : {s : State} {m : Lane} → Sound s → Words m → Sound (update s m)
 unfolding update firstSteps lastSteps

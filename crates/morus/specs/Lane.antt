@@ -16,12 +16,16 @@ turn k x = (x * 2 ^ k) % 2 ^ 64 + x / 2 ^ (64 - k)
 abbrev pub word : Lane → ℕ → ℕ
 word a i = getD (a .l) i 0
 
+-- the lane of four words
+abbrev pub lane4 : (a b c d : ℕ) → Lane
+lane4 a b c d = record { l = a ∷ b ∷ c ∷ d ∷ [] }
+
 -- the lane whose word i is f i
 abbrev pub laneBy : (ℕ → ℕ) → Lane
-laneBy f = record { l = f 0 ∷ f 1 ∷ f 2 ∷ f 3 ∷ [] }
+laneBy f = lane4 (f 0) (f 1) (f 2) (f 3)
 
 abbrev pub zeroLane : Lane
-zeroLane = laneBy (λ i. 0)
+zeroLane = lane4 0 0 0 0
 
 -- the lane of the first 32 bytes of b, with zeros past its end
 unfoldable pub laneOf : List ℕ → Lane

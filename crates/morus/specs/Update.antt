@@ -4,11 +4,14 @@ use mathlib.Core.List.{[], _∷_}
 use lib.ListN.{getD, set}
 use Rattle.morus.specs.declared.lane.Lane.{Lane}
 use Rattle.morus.specs.declared.state.State.{State}
-use Rattle.morus.specs.Lane.{_⊕_, _&_, turned, moved}
+use Rattle.morus.specs.Lane.{zeroLane, _⊕_, _&_, turned, moved}
 
 -- the state of five lanes
 abbrev pub state : (s0 s1 s2 s3 s4 : Lane) → State
 state s0 s1 s2 s3 s4 = record { s = s0 ∷ s1 ∷ s2 ∷ s3 ∷ s4 ∷ [] }
+
+abbrev pub zeroState : State
+zeroState = state zeroLane zeroLane zeroLane zeroLane zeroLane
 
 -- lane i of a state
 abbrev pub lane : State → ℕ → Lane

@@ -1,0 +1,30 @@
+-- The twelve cases: by computation, and the lengths of lines by their law.
+use Prim.Native.Nat.{ℕ, _*_, _+_}
+use mathlib.Core.Path.{_≡_, refl}
+use mathlib.Core.List.{List, [], _∷_}
+use lib.ListN.{length, replicate}
+use Rattle.morus.specs.Lane.{turn, laneOf, _⊕_, _&_, turned, moved}
+use Rattle.morus.specs.Update.{step1, step2, step3, step4, step5, firstSteps, lastSteps, update}
+use Rattle.morus.specs.Blocks.{keyStream}
+use Rattle.journal.specs.Tests.{firstFailing}
+use Rattle.journal.specs.Reader.{frameTests}
+use Rattle.journal.proofs.Sizes.{line-size}
+use Rattle.demands.specs.Twelve.{Twelve}
+
+pub twelve : Twelve
+unfolding turn laneOf _⊕_ _&_ turned moved step1 step2 step3 step4 step5 firstSteps lastSteps update keyStream firstFailing frameTests
+twelve =
+    record {
+      case1 = refl;
+      case2 = refl;
+      case3 = refl;
+      case4 = refl;
+      case5 = refl;
+      case6 = refl;
+      case7 = refl;
+      case8 = refl;
+      case9 = refl;
+      case10 = λ key nonce h. line-size key nonce [] [] h;
+      case11 = λ key nonce ad message h hd hm. rw (line-size key nonce ad message h, hd, hm);
+      case12 = refl;
+    }

@@ -1,0 +1,45 @@
+-- Demand 3. Damage costs only the lines it touches (a lost newline: the next line too). Two journals, any bytes A or B, then
+-- a newline, then the same T, read from the start under one key: T's lines are answered alike, same numbers, same buffers,
+-- places shifted. A line is opened exactly if it is the line that sealing and the format make from some nonce, data and
+-- message within the sizes, and those are handed out. The sealing is demand 2's.
+use Prim.Native.Nat.{ℕ, _+_, _<_, _≤_}
+use mathlib.Core.Path.{_≡_}
+use mathlib.Core.List.{List, _∷_, _++_}
+use lib.ListN.{length}
+use Rattle.journal.specs.declared.Answer.{Answer}
+use Rattle.journal.specs.Line.{newline, Fits, lineOf}
+use Rattle.journal.specs.Reader.{readAt}
+use Rattle.journal.specs.Run.{Entry, run, answersBefore, answersFrom, places, starts}
+use Rattle.journal.specs.Claims.{Every, Pairwise, Alike, Right, Ends}
+use Rattle.journal.specs.Promise.{LineRead}
+
+-- `run key journal size` is the list of answers with their places that reading from 0 gives, up to the end answer, with
+-- buffers of `size` bytes
+pub record Journal (key : List ℕ) (size : ℕ) : Type 0 where
+  -- each answer of the run is what a call at its place gives
+  pub calls : (j frame : List ℕ) (place : ℕ) {r : Answer} {frame' : List ℕ} → length frame ≡ size → LineRead j place key frame r frame'
+      → (r ≡ readAt key j place size .answer) × (frame' ≡ readAt key j place size .buffer)
+  pub of-calls : (j : List ℕ) → Every (λ (e : Entry). e .reading ≡ readAt key j (e .place) size) (run key j size)
+  -- the answers start at 0 and after each newline, up to the end, each once; and the end answer comes by call L + 1
+  pub every-line : (j : List ℕ) → places (run key j size) ≡ starts j
+  pub ends : (j : List ℕ) → Ends key j size
+  -- two journals: T's lines are answered alike, and places and next places differ by the difference in length
+  pub two-journals : (A B T : List ℕ)
+      → Pairwise (Alike (length A) (length B))
+      (answersFrom (length A + 1) (run key (A ++ newline ∷ T) size))
+      (answersFrom (length B + 1) (run key (B ++ newline ∷ T) size))
+  -- a stretch X between newlines damaged to Y: what stands before and behind it is answered alike
+  pub damage : (P X Y T : List ℕ)
+      → (answersBefore (length P + 1) (run key (P ++ newline ∷ (X ++ newline ∷ T)) size)
+      ≡ answersBefore (length P + 1) (run key (P ++ newline ∷ (Y ++ newline ∷ T)) size))
+      × Pairwise (Alike (length (P ++ newline ∷ X)) (length (P ++ newline ∷ Y)))
+      (answersFrom (length (P ++ newline ∷ X) + 1) (run key (P ++ newline ∷ (X ++ newline ∷ T)) size))
+      (answersFrom (length (P ++ newline ∷ Y) + 1) (run key (P ++ newline ∷ (Y ++ newline ∷ T)) size))
+  -- opened exactly if made, and then what it was made of is handed out
+  pub opened : (j : List ℕ) → Every (Right key j size) (run key j size)
+  -- it was made of one nonce, data and message only
+  pub once : (nonce ad message nonce′ ad′ message′ : List ℕ) → Fits nonce ad message → Fits nonce′ ad′ message′
+      → lineOf key nonce ad message ≡ lineOf key nonce′ ad′ message′ → (nonce ≡ nonce′) × (ad ≡ ad′) × (message ≡ message′)
+
+abbrev pub Demand3 : Type 0
+Demand3 = (key : List ℕ) (size : ℕ) → 353 ≤ size → Journal key size
