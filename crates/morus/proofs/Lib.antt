@@ -4,6 +4,7 @@ pub mod AllBytes
 pub mod Parts
 pub mod Xor
 pub mod Lanes
+pub mod Rounds
 pub mod Bounds
 pub mod Streams
 pub mod Blockwise

@@ -4,7 +4,8 @@ use mathlib.Core.List.{List, [], _∷_}
 use Prim.Native.Nat.{ℕ, _+_, _*_, _/_, _%_, _^_, _<_}
 use native.Mathlib.Omega.{arith}
 use lib.Bits.{bitXor, xor-shr, xor-mod}
-use Rattle.morus.specs.Bytes.{bytesOf, wordAt, xorBytes}
+use native.Mathlib.Nat.{add-assoc}
+use Rattle.morus.specs.Bytes.{byte, bytesOf, wordAt, xorBytes}
 
 eight : {a b c d e f g h a' b' c' d' e' f' g' h' : ℕ} → a ≡ a' → b ≡ b' → c ≡ c' → d ≡ d' → e ≡ e' → f ≡ f' → g ≡ g' → h ≡ h'
     → a ∷ b ∷ c ∷ d ∷ e ∷ f ∷ g ∷ h ∷ [] ≡ a' ∷ b' ∷ c' ∷ d' ∷ e' ∷ f' ∷ g' ∷ h' ∷ []
@@ -82,3 +83,12 @@ module _ (w : ℕ) (h : w < 2 ^ 64) where
 
       e0 : w % 256 + 256 * (w / 2 ^ 8) ≡ w
       e0 = omega arith
+
+-- the number of four bytes from byte j on, and the word that two of them make
+abbrev half : List ℕ → ℕ → ℕ
+half b j = byte b j + 256 * (byte b (j + 1) + 256 * (byte b (j + 2) + 256 * byte b (j + 3)))
+
+pub word-halves : (b : List ℕ) (j low high : ℕ) → low ≡ half b j → high ≡ half b (j + 4) → low + 0x100000000 * high ≡ wordAt b j
+word-halves b j low high l h =
+    let e : high ≡ byte b (j + 4) + 256 * (byte b (j + 5) + 256 * (byte b (j + 6) + 256 * byte b (j + 7))) = rw (add-assoc j 4 1, add-assoc j 4 2, add-assoc j 4 3) at h in
+    omega (arith, l, e)

@@ -1,9 +1,9 @@
 // Bytes in buffers: a copy, a padded block, and the words that eight bytes make.
 ghost use mathlib.Core.Path.{_≡_};
-ghost use Prim.Native.Nat.{_+_, _≤_, _<_};
+ghost use Prim.Native.Nat.{_+_, _*_, _^_, _≤_, _<_};
 ghost use lib.ListN.{length, take, drop, replicate};
 ghost use lib.Seq.{paste};
-ghost use Rattle.morus.specs.Bytes.{wordAt, bytesOf, padded};
+ghost use Rattle.morus.specs.Bytes.{byte, wordAt, bytesOf, padded};
 
 fn wide(x: u8) -> u64
     ensures { λ r. ⌜ (r ≡ x) × (r < 256) ⌝ }
@@ -11,20 +11,23 @@ fn wide(x: u8) -> u64
     x as u64
 }
 
-// The little-endian word of the eight bytes from byte `at` on. A sum of products, so that the back end makes one load of it.
+// The little-endian number of the four bytes from byte `at` on. A sum of products, so that the back end makes one load of it.
+fn half_at(b: &[u8; 32], at: usize) -> u64
+    requires { ⌜ at ≤ 28 ⌝ }
+    ensures { λ r. ⌜ (r ≡ byte (now (b .entry)) at + 256 * (byte (now (b .entry)) (at + 1) + 256 * (byte (now (b .entry)) (at + 2) + 256 * byte (now (b .entry)) (at + 3)))) × (r < 2 ^ 32) ⌝ }
+{
+    wide(b[at])
+        + 0x100 * wide(b[at + 1])
+        + 0x1_0000 * wide(b[at + 2])
+        + 0x100_0000 * wide(b[at + 3])
+}
+
+// The little-endian word of the eight bytes from byte `at` on.
 pub(crate) fn word_at(b: &[u8; 32], at: usize) -> u64
     requires { ⌜ at ≤ 24 ⌝ }
     ensures { λ r. ⌜ r ≡ wordAt (now (b .entry)) at ⌝ }
 {
-    let low = wide(b[at])
-        + 0x100 * wide(b[at + 1])
-        + 0x1_0000 * wide(b[at + 2])
-        + 0x100_0000 * wide(b[at + 3]);
-    let high = wide(b[at + 4])
-        + 0x100 * wide(b[at + 5])
-        + 0x1_0000 * wide(b[at + 6])
-        + 0x100_0000 * wide(b[at + 7]);
-    low + 0x1_0000_0000 * high
+    half_at(b, at) + 0x1_0000_0000 * half_at(b, at + 4)
 }
 
 // The eight bytes of a word, lowest first.
@@ -53,6 +56,14 @@ pub(crate) fn copy(dst: &mut [u8], at: usize, src: &[u8], from: usize, n: usize)
         dst[at + i] = src[from + i];
         i += 1;
     }
+}
+
+// The eight bytes of `w` over those of `b` from byte `at` on.
+pub(crate) fn put(b: &mut [u8], at: usize, w: u64)
+    requires { ⌜ at + 8 ≤ length (now b) ⌝ }
+    ensures { λ _. ⌜ now (b .exit) ≡ paste (now (b .entry)) at (bytesOf w) 8 ⌝ }
+{
+    copy(b, at, &bytes_of(w), 0, 8);
 }
 
 // The block of `n` bytes of `m` from byte `i` on, with zeros behind them.

@@ -1,13 +1,20 @@
 // A lane: four words of 64 bits.
-use crate::bytes::bytes_of;
-use crate::bytes::copy;
+use crate::bytes::put;
 use crate::bytes::word_at;
 ghost use mathlib.Core.Path.{_≡_};
 ghost use Prim.Native.Nat.{_<_};
-ghost use Rattle.morus.specs.Lane.{turn, laneOf, laneBytes, _⊕_, _&_, turned, moved};
+ghost use Rattle.morus.specs.Lane.{turn, word, laneOf, laneBytes, _⊕_, _&_, turned, moved};
 
 pub(crate) struct Lane {
     pub(crate) l: [u64; 4],
+}
+
+// The words of a lane by name.
+struct Words {
+    w0: u64,
+    w1: u64,
+    w2: u64,
+    w3: u64,
 }
 
 fn rotate_left(x: u64, k: u32) -> u64
@@ -21,43 +28,58 @@ impl Lane {
     pub(crate) fn from_bytes(src: &[u8; 32]) -> Lane
         ensures { λ r. ⌜ r ≡ laneOf (now (src .entry)) ⌝ }
     {
-        let z = [
-            word_at(src, 0),
-            word_at(src, 8),
-            word_at(src, 16),
-            word_at(src, 24),
-        ];
-        Lane { l: z }
+        Lane {
+            l: [
+                word_at(src, 0),
+                word_at(src, 8),
+                word_at(src, 16),
+                word_at(src, 24),
+            ],
+        }
+    }
+
+    fn words(self) -> Words
+        ensures { λ r. ⌜ r ≡ record { w0 = word self 0; w1 = word self 1; w2 = word self 2; w3 = word self 3 } ⌝ }
+    {
+        let x = self.l;
+        Words {
+            w0: x[0],
+            w1: x[1],
+            w2: x[2],
+            w3: x[3],
+        }
     }
 
     pub(crate) fn write(self, dst: &mut [u8; 32])
         ensures { λ _. ⌜ now (dst .exit) ≡ laneBytes self ⌝ }
     {
-        let x = self.l;
+        let x = self.words();
         let mut b = [0u8; 32];
-        copy(&mut b, 0, &bytes_of(x[0]), 0, 8);
-        copy(&mut b, 8, &bytes_of(x[1]), 0, 8);
-        copy(&mut b, 16, &bytes_of(x[2]), 0, 8);
-        copy(&mut b, 24, &bytes_of(x[3]), 0, 8);
+        put(&mut b, 0, x.w0);
+        put(&mut b, 8, x.w1);
+        put(&mut b, 16, x.w2);
+        put(&mut b, 24, x.w3);
         *dst = b;
     }
 
     pub(crate) fn xor(self, b: Lane) -> Lane
         ensures { λ r. ⌜ r ≡ self ⊕ b ⌝ }
     {
-        let x = self.l;
-        let y = b.l;
-        let z = [x[0] ^ y[0], x[1] ^ y[1], x[2] ^ y[2], x[3] ^ y[3]];
-        Lane { l: z }
+        let x = self.words();
+        let y = b.words();
+        Lane {
+            l: [x.w0 ^ y.w0, x.w1 ^ y.w1, x.w2 ^ y.w2, x.w3 ^ y.w3],
+        }
     }
 
     pub(crate) fn and(self, b: Lane) -> Lane
         ensures { λ r. ⌜ r ≡ self & b ⌝ }
     {
-        let x = self.l;
-        let y = b.l;
-        let z = [x[0] & y[0], x[1] & y[1], x[2] & y[2], x[3] & y[3]];
-        Lane { l: z }
+        let x = self.words();
+        let y = b.words();
+        Lane {
+            l: [x.w0 & y.w0, x.w1 & y.w1, x.w2 & y.w2, x.w3 & y.w3],
+        }
     }
 
     // Each word turned left by `k` bits.
@@ -65,46 +87,50 @@ impl Lane {
         requires { ⌜ (0 < k) × (k < 64) ⌝ }
         ensures { λ r. ⌜ r ≡ turned k self ⌝ }
     {
-        let x = self.l;
-        let z = [
-            rotate_left(x[0], k),
-            rotate_left(x[1], k),
-            rotate_left(x[2], k),
-            rotate_left(x[3], k),
-        ];
-        Lane { l: z }
+        let x = self.words();
+        Lane {
+            l: [
+                rotate_left(x.w0, k),
+                rotate_left(x.w1, k),
+                rotate_left(x.w2, k),
+                rotate_left(x.w3, k),
+            ],
+        }
     }
 
     // Moved by one, two or three places: word i goes to place i + 1, i + 2 or i + 3 modulo 4.
     pub(crate) fn move1(self) -> Lane
         ensures { λ r. ⌜ r ≡ moved 1 self ⌝ }
     {
-        let x = self.l;
-        let z = [x[3], x[0], x[1], x[2]];
-        Lane { l: z }
+        let x = self.words();
+        Lane {
+            l: [x.w3, x.w0, x.w1, x.w2],
+        }
     }
 
     pub(crate) fn move2(self) -> Lane
         ensures { λ r. ⌜ r ≡ moved 2 self ⌝ }
     {
-        let x = self.l;
-        let z = [x[2], x[3], x[0], x[1]];
-        Lane { l: z }
+        let x = self.words();
+        Lane {
+            l: [x.w2, x.w3, x.w0, x.w1],
+        }
     }
 
     pub(crate) fn move3(self) -> Lane
         ensures { λ r. ⌜ r ≡ moved 3 self ⌝ }
     {
-        let x = self.l;
-        let z = [x[1], x[2], x[3], x[0]];
-        Lane { l: z }
+        let x = self.words();
+        Lane {
+            l: [x.w1, x.w2, x.w3, x.w0],
+        }
     }
 
-    // The end of a step: the xor of `self` with `c & d`, turned left by `k`.
-    pub(crate) fn mix(self, k: u32, c: Lane, d: Lane) -> Lane
+    // What a step does to a lane: the xor of `self`, `b` and `c & d`, turned left by `k`.
+    pub(crate) fn mix(self, k: u32, b: Lane, c: Lane, d: Lane) -> Lane
         requires { ⌜ (0 < k) × (k < 64) ⌝ }
-        ensures { λ r. ⌜ r ≡ turned k (self ⊕ (c & d)) ⌝ }
+        ensures { λ r. ⌜ r ≡ turned k (self ⊕ b ⊕ (c & d)) ⌝ }
     {
-        self.xor(c.and(d)).turn(k)
+        self.xor(b).xor(c.and(d)).turn(k)
     }
 }

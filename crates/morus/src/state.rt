@@ -6,7 +6,7 @@ ghost use mathlib.Core.Path.{_≡_};
 ghost use Prim.Native.Nat.{_≤_, _<_, _^_};
 ghost use lib.ListN.{length};
 ghost use Rattle.morus.specs.Bytes.{padded, xorBytes};
-ghost use Rattle.morus.specs.Update.{firstSteps, lastSteps, update};
+ghost use Rattle.morus.specs.Update.{S0, S1, S2, S3, S4, firstSteps, lastSteps, update};
 ghost use Rattle.morus.specs.Start.{startWith, start};
 ghost use Rattle.morus.specs.Blocks.{keyStream, stream, sealing, opening};
 ghost use Rattle.morus.specs.Tag.{tag};
@@ -15,41 +15,55 @@ pub(crate) struct State {
     pub(crate) s: [Lane; 5],
 }
 
+// The lanes of a state by name.
+struct Lanes {
+    s0: Lane,
+    s1: Lane,
+    s2: Lane,
+    s3: Lane,
+    s4: Lane,
+}
+
 impl State {
+    fn lanes(self) -> Lanes
+        ensures { λ r. ⌜ r ≡ record { s0 = S0 self; s1 = S1 self; s2 = S2 self; s3 = S3 self; s4 = S4 self } ⌝ }
+    {
+        Lanes {
+            s0: self.s[0],
+            s1: self.s[1],
+            s2: self.s[2],
+            s3: self.s[3],
+            s4: self.s[4],
+        }
+    }
+
     // Steps 1 to 3 of the update. The two halves stand apart so that the back end takes both in wherever they are called.
     pub(crate) fn first(self, m: Lane) -> State
         ensures { λ r. ⌜ r ≡ firstSteps self m ⌝ }
     {
-        let s0 = self.s[0];
-        let s1 = self.s[1];
-        let s2 = self.s[2];
-        let s3 = self.s[3];
-        let s4 = self.s[4];
-        let t0 = s0.xor(s3).mix(13, s1, s2);
-        let t3 = s3.move1();
-        let t1 = s1.xor(m).xor(s4).mix(46, s2, t3);
-        let t4 = s4.move2();
-        let t2 = s2.xor(m).xor(t0).mix(38, t3, t4);
-        let u0 = t0.move3();
-        let t = [u0, t1, t2, t3, t4];
-        State { s: t }
+        let s = self.lanes();
+        let t0 = s.s0.mix(13, s.s3, s.s1, s.s2);
+        let t3 = s.s3.move1();
+        let t1 = s.s1.xor(m).mix(46, s.s4, s.s2, t3);
+        let t4 = s.s4.move2();
+        let t2 = s.s2.xor(m).mix(38, t0, t3, t4);
+        State {
+            s: [t0.move3(), t1, t2, t3, t4],
+        }
     }
 
     // Steps 4 and 5.
     pub(crate) fn last(self, m: Lane) -> State
         ensures { λ r. ⌜ r ≡ lastSteps self m ⌝ }
     {
-        let s0 = self.s[0];
-        let s1 = self.s[1];
-        let s2 = self.s[2];
-        let s3 = self.s[3];
-        let s4 = self.s[4];
-        let t3 = s3.xor(m).xor(s1).mix(7, s4, s0);
-        let t1 = s1.move2();
-        let t4 = s4.xor(m).xor(s2).mix(4, s0, t1);
-        let t2 = s2.move1();
-        let t = [s0, t1, t2, t3, t4];
-        State { s: t }
+        let s = self.lanes();
+        let s0 = s.s0;
+        let t3 = s.s3.xor(m).mix(7, s.s1, s.s4, s0);
+        let t1 = s.s1.move2();
+        let t4 = s.s4.xor(m).mix(4, s.s2, s0, t1);
+        State {
+            s: [s0, t1, s.s2.move1(), t3, t4],
+        }
     }
 
     pub(crate) fn update(self, m: Lane) -> State
@@ -61,11 +75,8 @@ impl State {
     fn key_stream(self) -> Lane
         ensures { λ r. ⌜ r ≡ keyStream self ⌝ }
     {
-        let s0 = self.s[0];
-        let s1 = self.s[1];
-        let s2 = self.s[2];
-        let s3 = self.s[3];
-        s0.xor(s1.move3()).xor(s2.and(s3))
+        let s = self.lanes();
+        s.s0.xor(s.s1.move3()).xor(s.s2.and(s.s3))
     }
 
     // The start over the key lane `k` and the nonce lane `n`.
@@ -87,8 +98,10 @@ impl State {
         let t = [n, k, ones, zero, c];
         let mut st = State { s: t };
         let mut i: usize = 0;
-        while i < 16 {
-            st = st.first(zero).last(zero);
+        // Four updates a turn: a word is then back in its place, and the back end moves none.
+        while i < 4 {
+            st = st.first(zero).last(zero).first(zero).last(zero);
+            st = st.first(zero).last(zero).first(zero).last(zero);
             i += 1;
         }
         let s1 = st.s[1].xor(k);
@@ -154,12 +167,14 @@ impl State {
         let lens = Lane {
             l: [8 * (adlen as u64), 8 * (mlen as u64), 0, 0],
         };
+        let s = self.lanes();
+        let s4 = s.s4.xor(s.s0);
         let mut st = self;
-        let s4 = st.s[4].xor(st.s[0]);
         st.s[4] = s4;
         let mut i: usize = 0;
-        while i < 10 {
-            st = st.first(lens).last(lens);
+        // Two updates a turn, for the same reason.
+        while i < 5 {
+            st = st.first(lens).last(lens).first(lens).last(lens);
             i += 1;
         }
         let mut b = [0u8; 32];

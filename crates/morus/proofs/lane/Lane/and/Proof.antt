@@ -1,5 +1,4 @@
--- The four words are those that the definition says, by computation.
-use mathlib.Core.Path.{refl}
+-- The four words are those that the definition says.
 use Rattle.morus.specs.Lane.{_&_}
 use borrow.Author.Needs.{needs}
 use Rattle.morus.proofs.lane.Lane.and.Statement.{statement}
@@ -8,18 +7,8 @@ use Rattle.morus.proofs.lane.Lane.and.Tie as tie
 returns : tie.Need-returns
 unfolding _&_
 returns c =
-    refl
+    let q : tie.After-words2 = c .before .before .before .before .before .before .before .before in
+    rw (q .words2 .ensures, q .before .words .ensures)
 
 pub and-spec : {M : Type 1} → statement M
-and-spec =
-    tie.close
-    (tie.spec
-    (λ c. search needs)
-    (λ c. search needs)
-    (λ c. search needs)
-    (λ c. search needs)
-    (λ c. search needs)
-    (λ c. search needs)
-    (λ c. search needs)
-    (λ c. search needs)
-    returns)
+and-spec = tie.close (tie.spec (λ c κs. search needs) (λ c κs. search needs) returns)

@@ -7,7 +7,7 @@ use Rattle.morus.proofs.lane.Lane.from_bytes.Tie as tie
 returns : tie.Need-returns
 unfolding laneOf
 returns c =
-    cc
+    rw (c .word-at4 .ensures, c .before .word-at3 .ensures, c .before .before .word-at2 .ensures, c .before .before .before .word-at .ensures)
 
 pub from-bytes-spec : {M : Type 1} → statement M
 from-bytes-spec =

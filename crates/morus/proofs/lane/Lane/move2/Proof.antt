@@ -1,5 +1,4 @@
--- The four words are those that the definition says, by computation.
-use mathlib.Core.Path.{refl}
+-- The four words are those that the definition says.
 use Rattle.morus.specs.Lane.{moved}
 use borrow.Author.Needs.{needs}
 use Rattle.morus.proofs.lane.Lane.move2.Statement.{statement}
@@ -8,7 +7,7 @@ use Rattle.morus.proofs.lane.Lane.move2.Tie as tie
 returns : tie.Need-returns
 unfolding moved
 returns c =
-    refl
+    rw (c .words .ensures)
 
 pub move2-spec : {M : Type 1} → statement M
-move2-spec = tie.close (tie.spec (λ c. search needs) (λ c. search needs) (λ c. search needs) (λ c. search needs) returns)
+move2-spec = tie.close (tie.spec (λ c κs. search needs) returns)

@@ -8,16 +8,13 @@ use Rattle.morus.proofs.state.State.key_stream.Tie as tie
 returns : tie.Need-returns
 unfolding keyStream _⊕_ _&_ moved
 returns c =
-    rw (c .xor2 .ensures, c .before .before .xor .ensures, c .before .and .ensures, c .before .before .before .move3 .ensures)
+    rw (c .xor2 .ensures, c .before .before .xor .ensures, c .before .and .ensures, c .before .before .before .move3 .ensures, c .before .before .before .before .lanes .ensures)
 
 pub key-stream-spec : {M : Type 1} → statement M
 key-stream-spec =
     tie.close
     (tie.spec
-    (λ c. search needs)
-    (λ c. search needs)
-    (λ c. search needs)
-    (λ c. search needs)
+    (λ c κs. search needs)
     (λ c κs. search needs)
     (λ c κs. search needs)
     (λ c κs. search needs)

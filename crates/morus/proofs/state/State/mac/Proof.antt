@@ -1,22 +1,22 @@
--- The invariant: `i` updates with the length lane are done. The measure is what is left of ten.
+-- The invariant: `2 * i` updates with the length lane are done. The measure is what is left of the five turns.
 use mathlib.Core.Path.{_≡_, refl, ap, sym}
-use Prim.Native.Nat.{_≤_, _-_}
+use Prim.Native.Nat.{_≤_, _-_, _*_}
 use native.Mathlib.Omega.{arith}
-use native.Mathlib.Numerals.{add-one}
 use lib.ListN.{length}
 use Rattle.morus.specs.Lane.{laneBytes}
-use Rattle.morus.specs.Update.{update, times}
+use Rattle.morus.specs.Update.{times}
 use Rattle.morus.specs.Blocks.{stream}
 use Rattle.morus.specs.Tag.{tag}
+use Rattle.morus.proofs.Rounds.{updated, two-more}
 use borrow.Author.Needs.{needs}
 use Rattle.morus.proofs.state.State.mac.Statement.{statement}
 use Rattle.morus.proofs.state.State.mac.Tie as tie
 
 abbrev Inv-loop : tie.InvT-loop
-Inv-loop adlen mlen lens st₀ i₀ st i = (i ≤ 10) × (st ≡ times i lens st₀)
+Inv-loop adlen mlen lens st₀ i₀ st i = (i ≤ 5) × (st ≡ times (2 * i) lens st₀)
 
 abbrev μ-loop : tie.MeasureT-loop
-μ-loop adlen mlen lens st₀ i₀ st i = 10 - i
+μ-loop adlen mlen lens st₀ i₀ st i = 5 - i
 
 loop-holds : tie.Need-loop-holds Inv-loop μ-loop
 unfolding times
@@ -24,17 +24,20 @@ loop-holds c =
     (omega arith, refl)
 
 loop-again : tie.Need-loop-again Inv-loop μ-loop
-unfolding times update
 loop-again c =
-    (omega arith, rw (c .last .ensures, c .before .first .ensures, add-one, c .before .before .before .loop .inv .1))
+    let q : tie.After-last Inv-loop μ-loop = c .before .before in
+    let l : tie.At-loop Inv-loop μ-loop = q .before .before .before in
+    (omega arith, two-more (l .loop .i) _ _ (l .loop .inv .1) (updated _ _ (q .before .first .ensures) (q .last .ensures)) (updated _ _ (c .before .first2 .ensures) (c .last2 .ensures)))
 
-whole : tie.Need-slice-aggregate-copy-2 Inv-loop μ-loop
+slice-aggregate-copy-2 : tie.Need-slice-aggregate-copy-2 Inv-loop μ-loop
 unfolding laneBytes
-whole c = ap length (sym (c .before .before .write .ensures))
+slice-aggregate-copy-2 c =
+    ap length (sym (c .before .before .write .ensures))
 
-enough : tie.Need-copy-requires Inv-loop μ-loop
+copy-requires : tie.Need-copy-requires Inv-loop μ-loop
 unfolding laneBytes
-enough c κs = (search needs, omega (arith, ap length (c .before .before .write .ensures)))
+copy-requires c κs =
+    (search needs, omega (arith, ap length (c .before .before .write .ensures)))
 
 returns : tie.Need-returns Inv-loop μ-loop
 unfolding tag stream laneBytes
@@ -42,8 +45,8 @@ returns c =
     let w : tie.After-write Inv-loop μ-loop = c .before .before .before .before in
     let k : tie.After-key-stream Inv-loop μ-loop = w .before .before in
     let l : tie.At-loop Inv-loop μ-loop = k .before .before in
-    let e : l .loop .i ≡ 10 = omega arith in
-    rw (c .before .copy .ensures, w .write .ensures, k .key-stream .ensures, l .loop .inv .1, e, l .before .xor .ensures)
+    let e : 2 * l .loop .i ≡ 10 = omega arith in
+    rw (c .before .copy .ensures, w .write .ensures, k .key-stream .ensures, l .loop .inv .1, e, l .before .xor .ensures, l .before .before .lanes .ensures)
 
 pub mac-spec : {M : Type 1} → statement M
 mac-spec =
@@ -53,11 +56,12 @@ mac-spec =
     μ-loop
     (λ c. search needs)
     (λ c. search needs)
-    (λ c. search needs)
-    (λ c. search needs)
+    (λ c κs. search needs)
     (λ c κs. search needs)
     (λ c. search needs)
     loop-holds
+    (λ c κs. search needs)
+    (λ c κs. search needs)
     (λ c κs. search needs)
     (λ c κs. search needs)
     (λ c. search needs)
@@ -66,6 +70,6 @@ mac-spec =
     (λ c κs. search needs)
     (λ c κs. search needs)
     (λ c. search needs)
-    whole
-    enough
+    slice-aggregate-copy-2
+    copy-requires
     returns)
