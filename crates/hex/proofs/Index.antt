@@ -2,7 +2,7 @@
 -- Assumes nothing.
 use Prim.Native.Nat.{ℕ, zero, suc, _+_, _*_, _/_, _%_, _≤_, _<_}
 use mathlib.Core.Path.{_≡_, refl, sym, ap, _∙_}
-use mathlib.Core.Bool.{true, false, _&&_}
+use mathlib.Core.Bool.{Bool, true, false, _&&_}
 use mathlib.Core.List.{List, [], _∷_, _++_}
 use native.Mathlib.Omega.{arith}
 use native.Mathlib.Nat.{zero-add}
@@ -16,16 +16,21 @@ use Rattle.hex.proofs.Digit.{and-true, value}
 digits-step : (s : List ℕ) (i : ℕ) → i < length s → allDigits (drop i s) ≡ isDigit (getD s i 0) && allDigits (drop (i + 1) s)
 digits-step s i h = rw (add-one, drop-cons s i 0)
 
--- the test of the text stops at a byte that is no digit, goes on at a digit, and ends well at the end
-module _ (s : List ℕ) (i : ℕ) (so-far : allDigits (drop i s) ≡ allDigits s) where
-  pub digits-stop : i < length s → isDigit (getD s i 0) ≡ false → false ≡ allDigits s
-  digits-stop h e = sym (sym so-far ∙ digits-step s i h ∙ rw e)
+and-assoc : (a b c : Bool) → (a && b) && c ≡ a && (b && c)
+and-assoc true b c = refl
+and-assoc false b c = refl
 
-  pub digits-go : i < length s → isDigit (getD s i 0) ≡ true → allDigits (drop (i + 1) s) ≡ allDigits s
-  digits-go h e = sym (sym so-far ∙ digits-step s i h ∙ rw e)
+and-end : (a : Bool) → a && true ≡ a
+and-end true = refl
+and-end false = refl
 
-  pub digits-end : length s ≤ i → true ≡ allDigits s
-  digits-end h = rw (drop-of-length-le s h) at so-far
+-- the test of the text, all so far, goes on with one more byte, and ends at the end
+module _ (s : List ℕ) (i : ℕ) (all : Bool) (so-far : all && allDigits (drop i s) ≡ allDigits s) where
+  pub digits-go : i < length s → (all && isDigit (getD s i 0)) && allDigits (drop (i + 1) s) ≡ allDigits s
+  digits-go h = and-assoc all _ _ ∙ (rw (digits-step s i h) at so-far)
+
+  pub digits-end : length s ≤ i → all ≡ allDigits s
+  digits-end h = sym (and-end all) ∙ (rw (drop-of-length-le s h) at so-far)
 
 pub digit-at : (s : List ℕ) (i : ℕ) → allDigits s ≡ true → i < length s → isDigit (getD s i 0) ≡ true
 digit-at [] i d h = absurd (omega arith)

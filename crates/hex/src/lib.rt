@@ -32,17 +32,17 @@ fn value_of(c: u8) -> u8
     if c <= 57 { c - 48 } else { c - 87 }
 }
 
+// Every byte is looked at, whatever the first ones are: the back end then looks at many at a time.
 fn all_digits(text: &[u8]) -> bool
     ensures { λ r. ⌜ r ≡ allDigits (now (text .entry)) ⌝ }
 {
+    let mut all = true;
     let mut i = 0;
     while i < text.len() {
-        if !is_digit(text[i]) {
-            return false;
-        }
+        all = all & is_digit(text[i]);
         i += 1;
     }
-    true
+    all
 }
 
 // The byte of each pair of digits, at the front of `bytes`.

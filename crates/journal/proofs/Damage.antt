@@ -67,7 +67,9 @@ module _ (key : List ℕ) (size : ℕ) (big : 353 ≤ size) where
   line-before s A h B = record {
     answers = entry 0 (readText key s (length s + 1) size) ∷ map (shiftEntry (length s + 1)) (B .answers);
     places = (omega arith, up-to-shift (length s + 1) (length A) (length (s ++ newline ∷ A)) (B .answers) (omega (arith, length-append s (newline ∷ A))) (B .places));
-    splits = λ T. rw (append-assoc s (newline ∷ A) (newline ∷ T), one-line key size big s (A ++ newline ∷ T) h, B .splits T, map-append, shifts (length s + 1) (length A + 1) (length (s ++ newline ∷ A) + 1) (run key T size) (omega (arith, length-append s (newline ∷ A))));
+    splits = λ T.
+        let d = shifts (length s + 1) (length A + 1) (length (s ++ newline ∷ A) + 1) (run key T size) (omega (arith, length-append s (newline ∷ A))) in
+        rw (append-assoc s (newline ∷ A) (newline ∷ T), one-line key size big s (A ++ newline ∷ T) h, B .splits T, map-append, d);
   }
 
   before-fuel : (k : ℕ) (A : List ℕ) → length A ≤ k → Before key size A
@@ -87,7 +89,9 @@ module _ (key : List ℕ) (size : ℕ) (big : 353 ≤ size) where
   -- the answers to A's lines, whatever comes after A and a newline, do not depend on it
   pub first : (A T : List ℕ) → answersBefore (length A + 1) (run key (A ++ newline ∷ T) size) ≡ before A .answers
   first A T =
-      rw (before A .splits T, before-here (length A) (before A .answers) (map (shiftEntry (length A + 1)) (run key T size)) (before A .places), before-shifted (length A + 1) (run key T size), append-nil)
+      let rest = map (shiftEntry (length A + 1)) (run key T size) in
+      rw (before A .splits T)
+      (before-here (length A) (before A .answers) rest (before A .places) ∙ rw (before-shifted (length A + 1) (run key T size), append-nil))
 
   -- the answers to T's lines, behind any A and a newline, are those of T by itself, shifted
   pub isolated : (A T : List ℕ) → answersFrom (length A + 1) (run key (A ++ newline ∷ T) size) ≡ map (shiftEntry (length A + 1)) (run key T size)

@@ -43,7 +43,8 @@ parts nonce ad body tag hn ht =
     let f = frameWith nonce ad body tag in
     let n : nIn f ≡ length ad = getD-at nonce (length ad) (ad ++ (body ++ tag)) 0 16 hn in
     let m : mIn f ≡ length body = rw n (omega (arith, frame-length nonce ad body tag)) in
-    let d : drop 17 f ≡ ad ++ (body ++ tag) = rw (append-snoc) at (drop-at (nonce ++ (length ad ∷ [])) (ad ++ (body ++ tag)) 17 (omega (arith, length-append nonce (length ad ∷ [])))) in
+    let d : drop 17 f ≡ ad ++ (body ++ tag) =
+    rw append-snoc at (drop-at (nonce ++ (length ad ∷ [])) (ad ++ (body ++ tag)) 17 (omega (arith, length-append nonce (length ad ∷ [])))) in
     let d2 : drop (nIn f) (drop 17 f) ≡ body ++ tag = rw (n, d) (drop-at ad (body ++ tag) (length ad) refl) in
     record {
       nIs = n;

@@ -20,13 +20,14 @@ use Rattle.journal.proofs.Places.{too-small}
 use Rattle.journal.proofs.Opened.{hands-out, opened-exactly}
 use Rattle.journal.proofs.Refused.{not-opened}
 
-handed-length : (key nonce ad message : List ℕ) (next size : ℕ) → Fits nonce ad message → 353 ≤ size → length (handed key nonce ad message next size .buffer) ≡ size
+handed-length : (key nonce ad message : List ℕ) (next size : ℕ) → Fits nonce ad message → 353 ≤ size
+    → length (handed key nonce ad message next size .buffer) ≡ size
 unfolding handed opened
 handed-length key nonce ad message next size F big =
     let t = sealTag key nonce ad message in
     let front = frameWith nonce ad message t in
     length-append front (replicate (size - length front) 0xaa)
-    ∙ omega (arith, length-replicate {A = ℕ} (size - length front) 0xaa, frame-length nonce ad message t, tag-length key nonce ad message, F .nonce16, F .ad64, F .message256)
+    ∙ omega (arith, length-replicate {A = ℕ} (size - length front) 0xaa, frame-length nonce ad message t, tag-length key nonce ad message, F)
 
 pub keeps-length : {j key frame frame' : List ℕ} {place : ℕ} {r : Answer} → LineRead j place key frame r frame' → length frame' ≡ length frame
 unfolding refused

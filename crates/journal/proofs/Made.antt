@@ -43,7 +43,11 @@ module _ (key : List ℕ) where
       let c = seal key nonce ad message in
       let t = sealTag key nonce ad message in
       record {
-        bytes = bytes-append nonce _ (F .nonceBytes) (bytes-cons (ad ++ (c ++ t)) (omega (arith, F .ad64)) (bytes-append ad _ (F .adBytes) (bytes-append c t (seal-bytes key nonce ad message (F .messageBytes)) (tag-bytes key nonce ad message))));
+        bytes =
+            bytes-append nonce (length ad ∷ (ad ++ (c ++ t))) (F .nonceBytes)
+            (bytes-cons (ad ++ (c ++ t)) (omega (arith, F .ad64))
+            (bytes-append ad (c ++ t) (F .adBytes)
+            (bytes-append c t (seal-bytes key nonce ad message (F .messageBytes)) (tag-bytes key nonce ad message))));
         len = frame-size key nonce ad message (F .nonce16);
         are = parts nonce ad c t (F .nonce16) (tag-length key nonce ad message);
       }
@@ -68,7 +72,9 @@ module _ (key : List ℕ) where
         let n = S .are .nIs in
         let m = S .are .mIs ∙ seal-length key nonce ad message in
         let l = S .len in
-        (must (λ e. omega (arith, leb-false)), (must (λ e. omega (arith, leb-false, F .ad64)), (must (λ e. omega (arith, leb-false)), (must (λ e. omega (arith, leb-false, F .message256)), tt))))
+        let n64 = F .ad64 in
+        let m256 = F .message256 in
+        (must (λ e. omega (arith, leb-false)), (must (λ e. omega (arith, leb-false)), (must (λ e. omega (arith, leb-false)), (must (λ e. omega (arith, leb-false)), tt))))
 
     tag-passes : (next size : ℕ) → given key f next size (firstFailing (tagTests key f)) ≡ handed key nonce ad message next size
     unfolding firstFailing tagTests given openedFrame handed
@@ -112,7 +118,8 @@ module _ (key : List ℕ) where
       }
 
   -- a line is made from one nonce, data and message only
-  pub made-once : (nonce ad message nonce′ ad′ message′ : List ℕ) → Fits nonce ad message → Fits nonce′ ad′ message′ → lineOf key nonce ad message ≡ lineOf key nonce′ ad′ message′
+  pub made-once : (nonce ad message nonce′ ad′ message′ : List ℕ) → Fits nonce ad message → Fits nonce′ ad′ message′
+      → lineOf key nonce ad message ≡ lineOf key nonce′ ad′ message′
       → (nonce ≡ nonce′) × (ad ≡ ad′) × (message ≡ message′)
   made-once nonce ad message nonce′ ad′ message′ F F′ e =
       let f = frameOf key nonce ad message in

@@ -39,7 +39,8 @@ pub getD-newlineAt : (s : List ℕ) → newlineAt s < length s → getD s (newli
 getD-newlineAt [] h = absurd (omega arith)
 getD-newlineAt (x ∷ xs) h = go (eqb x 10) refl (getD-newlineAt xs) h
   where
-    go : (b : Bool) → eqb x 10 ≡ b → (newlineAt xs < length xs → getD xs (newlineAt xs) 0 ≡ 10) → cond b 0 (suc (newlineAt xs)) < suc (length xs) → getD (x ∷ xs) (cond b 0 (suc (newlineAt xs))) 0 ≡ 10
+    go : (b : Bool) → eqb x 10 ≡ b → (newlineAt xs < length xs → getD xs (newlineAt xs) 0 ≡ 10) → cond b 0 (suc (newlineAt xs)) < suc (length xs)
+        → getD (x ∷ xs) (cond b 0 (suc (newlineAt xs))) 0 ≡ 10
     go true e ih h = eqb-true x 10 e
     go false e ih h = ih (omega arith)
 
@@ -59,7 +60,8 @@ pub newlineAt-line : (s : List ℕ) → newlineAt (take (suc (newlineAt s)) s) �
 newlineAt-line [] = refl
 newlineAt-line (x ∷ xs) = go (eqb x 10) refl (newlineAt-line xs)
   where
-    go : (b : Bool) → eqb x 10 ≡ b → newlineAt (take (suc (newlineAt xs)) xs) ≡ newlineAt xs → newlineAt (take (suc (cond b 0 (suc (newlineAt xs)))) (x ∷ xs)) ≡ cond b 0 (suc (newlineAt xs))
+    go : (b : Bool) → eqb x 10 ≡ b → newlineAt (take (suc (newlineAt xs)) xs) ≡ newlineAt xs
+        → newlineAt (take (suc (cond b 0 (suc (newlineAt xs)))) (x ∷ xs)) ≡ cond b 0 (suc (newlineAt xs))
     go true e ih = rw e
     go false e ih = rw e (ap suc ih)
 

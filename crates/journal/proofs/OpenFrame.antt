@@ -44,7 +44,8 @@ pub record Cut (b : List ℕ) (count : ℕ) : Type 0 where
   pub cipher-length : length (cipherIn (take count b)) ≡ count - 16 - (17 + getD b 16 0)
   pub tag-out : take 16 (drop (count - 16) b) ≡ tagIn (take count b)
   pub put-back : (y : List ℕ) → put b count y ≡ frameWith (nonceIn (take count b)) (adIn (take count b)) y (tagIn (take count b)) ++ drop count b
-  pub front-length : (y : List ℕ) → length y ≡ length (cipherIn (take count b)) → length (frameWith (nonceIn (take count b)) (adIn (take count b)) y (tagIn (take count b))) ≡ count
+  pub front-length : (y : List ℕ) → length y ≡ length (cipherIn (take count b))
+      → length (frameWith (nonceIn (take count b)) (adIn (take count b)) y (tagIn (take count b))) ≡ count
 
 cut : (b : List ℕ) (count : ℕ) → 33 + getD b 16 0 ≤ count → count ≤ length b → Cut b count
 cut b count least most =
@@ -58,10 +59,12 @@ cut b count least most =
     let data-length = S .adLength ∙ n-is in
     let cipher-length = S .bodyLength ∙ m-is in
     let F = at-front (nonceIn f) (adIn f) (cipherIn f) (tagIn f) rest (S .nonce16) (S .tag16) in
-    let whole : b ≡ frameWith (nonceIn f) (adIn f) (cipherIn f) (tagIn f) ++ rest = sym (take-append-drop count b) ∙ ap (λ (x : List ℕ). x ++ rest) (sym (S .whole)) in
+    let whole : b ≡ frameWith (nonceIn f) (adIn f) (cipherIn f) (tagIn f) ++ rest =
+    sym (take-append-drop count b) ∙ ap (λ (x : List ℕ). x ++ rest) (sym (S .whole)) in
     let rest-out : drop (17 + n) b ≡ cipherIn f ++ (tagIn f ++ rest) = ap (drop (17 + n)) whole ∙ F .body-at (17 + n) (omega arith) in
     let front-out : take (17 + n) b ≡ nonceIn f ++ (length (adIn f) ∷ adIn f) = ap (take (17 + n)) whole ∙ F .before-body (17 + n) (omega arith) in
-    let tail-out : drop (count - 16 - (17 + n)) (drop (17 + n) b) ≡ tagIn f ++ rest = rw rest-out (drop-at (cipherIn f) (tagIn f ++ rest) (count - 16 - (17 + n)) cipher-length) in
+    let tail-out : drop (count - 16 - (17 + n)) (drop (17 + n) b) ≡ tagIn f ++ rest =
+    rw rest-out (drop-at (cipherIn f) (tagIn f ++ rest) (count - 16 - (17 + n)) cipher-length) in
     record {
       n-is = n-is;
       m-is = m-is;
@@ -101,7 +104,8 @@ module _ (b : List ℕ) (count : ℕ) (key : List ℕ) (next : ℕ)
   settled : Decrypted (begun (nonceIn f) key) (adIn f) (cipherIn f) (tagIn f) r y
   settled =
       let e : w ≡ begun (nonceIn f) key = begins ∙ ap (λ (x : List ℕ). begun x key) (nonce-is ∙ P .nonce-out) in
-      let d : take (getD b 16 0) held ≡ adIn f = ap (take (getD b 16 0)) held-is ∙ copied (replicate 64 0) (drop 17 b) (getD b 16 0) (omega (arith, length-drop 17 b)) ∙ P .data-out in
+      let n = getD b 16 0 in
+      let d : take n held ≡ adIn f = ap (take n) held-is ∙ copied (replicate 64 0) (drop 17 b) n (omega (arith, length-drop 17 b)) ∙ P .data-out in
       same-call e d (P .cipher-out) (tag-is ∙ P .tag-out) said
 
   few-data : length (adIn f) < 2 ^ 61
@@ -117,15 +121,19 @@ module _ (b : List ℕ) (count : ℕ) (key : List ℕ) (next : ℕ)
   unfolding given tagTests firstFailing
   tag-fails h = go (accepts key (nonceIn f) (adIn f) (cipherIn f) (tagIn f)) refl
     where
-      go : (a : Bool) → accepts key (nonceIn f) (adIn f) (cipherIn f) (tagIn f) ≡ a → given key f next (length b) (cond a 0 1) ≡ Reader.refused r next (length b)
+      go : (a : Bool) → accepts key (nonceIn f) (adIn f) (cipherIn f) (tagIn f) ≡ a
+          → given key f next (length b) (cond a 0 1) ≡ Reader.refused r next (length b)
       go true e = absurd (h (opened (nonceIn f) key (tagIn f) settled few-data few-cipher e .0))
       go false e = rw (refused (nonceIn f) key (tagIn f) settled few-data few-cipher e .0)
 
-  tag-passes : r ≡ 0 → given key f next (length b) (firstFailing (tagTests key f)) ≡ Reader.opened next (nIn f) (mIn f) (length b) (frameWith (nonceIn f) (adIn f) y (tagIn f))
+  tag-passes : r ≡ 0
+      → given key f next (length b) (firstFailing (tagTests key f))
+      ≡ Reader.opened next (nIn f) (mIn f) (length b) (frameWith (nonceIn f) (adIn f) y (tagIn f))
   unfolding given tagTests firstFailing openedFrame
   tag-passes h = go (accepts key (nonceIn f) (adIn f) (cipherIn f) (tagIn f)) refl
     where
-      go : (a : Bool) → accepts key (nonceIn f) (adIn f) (cipherIn f) (tagIn f) ≡ a → given key f next (length b) (cond a 0 1) ≡ Reader.opened next (nIn f) (mIn f) (length b) (frameWith (nonceIn f) (adIn f) y (tagIn f))
+      go : (a : Bool) → accepts key (nonceIn f) (adIn f) (cipherIn f) (tagIn f) ≡ a
+          → given key f next (length b) (cond a 0 1) ≡ Reader.opened next (nIn f) (mIn f) (length b) (frameWith (nonceIn f) (adIn f) y (tagIn f))
       go true e = rw (opened (nonceIn f) key (tagIn f) settled few-data few-cipher e .1)
       go false e = absurd (omega (arith, refused (nonceIn f) key (tagIn f) settled few-data few-cipher e .0))
 

@@ -30,9 +30,11 @@ module _ (key : List ℕ) where
         let f = frameOf key (M .nonce) (M .ad) (M .message) in
         let x = text-line s (hexOf f) (digits-plain f (is-sealed key (M .nonce) (M .ad) (M .message) (M .fits) .bytes)) (M .is) in
         let l : p + length (take (newlineAt s + 1) s) ≡ p + newlineAt s + 1 = omega (arith, length-take (newlineAt s + 1) s, x .0) in
-        found key j p size big (omega (arith, length-drop p j, x .0)) (x .0) ∙ rw (x .1, l) (line-opens key (M .nonce) (M .ad) (M .message) (M .fits) (p + newlineAt s + 1) size)
+        found key j p size big (omega (arith, length-drop p j, x .0)) (x .0)
+        ∙ rw (x .1, l) (line-opens key (M .nonce) (M .ad) (M .message) (M .fits) (p + newlineAt s + 1) size)
 
-    not-refused : (b : Bool) (k next : ℕ) (r : Reading) → (cond b (refused (suc k) next size) r) .answer .number ≡ 0 → (b ≡ false) × (r .answer .number ≡ 0)
+    not-refused : (b : Bool) (k next : ℕ) (r : Reading) → (cond b (refused (suc k) next size) r) .answer .number ≡ 0
+        → (b ≡ false) × (r .answer .number ≡ 0)
     unfolding refused
     not-refused true k next r e = absurd (omega arith)
     not-refused false k next r e = (refl, e)
@@ -45,7 +47,8 @@ module _ (key : List ℕ) where
         let e12 = not-refused (ltb (length j) p) 11 p _ (e13 .1) in
         let e14 = not-refused (eqb p (length j)) 13 p _ (e12 .1) in
         let e11 = not-refused (leb (length s) (newlineAt s)) 10 (length j) _ (e14 .1) in
-        let z : firstFailing (lineTests key (textOf s)) ≡ 0 = sym (given-number key (unhex (textOf s)) (p + newlineAt s + 1) size (firstFailing (lineTests key (textOf s)))) ∙ e11 .1 in
+        let k = firstFailing (lineTests key (textOf s)) in
+        let z : k ≡ 0 = sym (given-number key (unhex (textOf s)) (p + newlineAt s + 1) size k) ∙ e11 .1 in
         rw (line-text s (leb-false (length s) (newlineAt s) (e11 .0))) (opened-made key (textOf s) z)
 
     pub opened-exactly : ((readAt key j p size) .answer .number ≡ 0) ↔ Made key (lineAt j p)

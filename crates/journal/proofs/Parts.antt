@@ -25,7 +25,8 @@ fill-more b from i v h l =
     let e : length front ≡ i = rw (length-append, length-replicate, length-take-le from b (omega arith)) (omega arith) in
     let k : i + 1 - from ≡ i - from + 1 = omega arith in
     let r = replicate (i - from) v in
-    let tail : r ++ (v ∷ []) ++ drop (suc i) b ≡ replicate (i + 1 - from) v ++ drop (i + 1) b = rw (k, add-one i) (ap (λ (x : List ℕ). x ++ drop (suc i) b) (replicate-append-replicate (i - from) 1 v)) in
+    let tail : r ++ (v ∷ []) ++ drop (suc i) b ≡ replicate (i + 1 - from) v ++ drop (i + 1) b =
+    rw (k, add-one i) (ap (λ (x : List ℕ). x ++ drop (suc i) b) (replicate-append-replicate (i - from) 1 v)) in
     rw (drop-cons b i 0, ← append-assoc (take from b) r (getD b i 0 ∷ drop (suc i) b))
     (set-at front (getD b i 0) (drop (suc i) b) v i e
     ∙ append-assoc (take from b) r (v ∷ drop (suc i) b)

@@ -14,7 +14,7 @@ use Rattle.journal.specs.Tests.{firstFailing}
 use Rattle.journal.specs.Line.{newlineAt, textOf}
 use Rattle.journal.specs.Reader.{textTests, frameTests, tagTests, lineTests, refused, opened, given, readText, readAt}
 use Rattle.journal.specs.Run.{Entry, entry, runFrom, run}
-use Rattle.journal.specs.Claims.{Every, Ends}
+use Rattle.journal.specs.Claims.{Every, Moves, Ends}
 use Rattle.journal.specs.Promise.{LineRead}
 use Rattle.journal.proofs.Tests.{Numbered, first-le}
 use Rattle.journal.proofs.Places.{at-end, inside}
@@ -39,14 +39,20 @@ module _ (key : List ℕ) where
   text-le t = first-le 10 (lineTests key t) (tt, (tt, (tt, (tt, (tt, (tt, (tt, (tt, tt))))))))
 
   module _ (size : ℕ) (big : 353 ≤ size) where
-    -- a call inside the journal moves forward, to at most its length, and is not the end answer
-    pub moves : (j : List ℕ) (p : ℕ) → p < length j → (p < readAt key j p size .answer .next) × (readAt key j p size .answer .next ≤ length j) × (readAt key j p size .answer .number ≡ 14 → ⊥)
+    pub moves : (j : List ℕ) (p : ℕ) → p < length j → Moves j p (readAt key j p size .answer)
     unfolding refused readText
     moves j p h = rw (inside key j p size big h) (go (leb (length (drop p j)) (newlineAt (drop p j))) refl)
       where
-        go : (b : Bool) → leb (length (drop p j)) (newlineAt (drop p j)) ≡ b → let r = cond b (refused 11 (length j) size) (readText key (textOf (drop p j)) (p + newlineAt (drop p j) + 1) size) in (p < r .answer .next) × (r .answer .next ≤ length j) × (r .answer .number ≡ 14 → ⊥)
-        go true e = (h, omega arith, omega arith)
-        go false e = simp (given-next, given-number) (omega (arith, leb-false (length (drop p j)) (newlineAt (drop p j)) e, length-drop p j, text-le (textOf (drop p j))))
+        go : (b : Bool) → leb (length (drop p j)) (newlineAt (drop p j)) ≡ b
+            → Moves j p (cond b (refused 11 (length j) size) (readText key (textOf (drop p j)) (p + newlineAt (drop p j) + 1) size) .answer)
+        go true e = record { ahead = h; within = omega arith; not-end = omega arith }
+        go false e =
+            let l = leb-false (length (drop p j)) (newlineAt (drop p j)) e in
+            record {
+              ahead = rw given-next (omega arith);
+              within = rw given-next (omega (arith, length-drop p j));
+              not-end = rw given-number (omega (arith, text-le (textOf (drop p j))));
+            }
 
     -- calls enough to reach the end give one list
     pub fuel : (j : List ℕ) (k k′ p : ℕ) → p ≤ length j → length j < k + p → length j < k′ + p → runFrom key j size k p ≡ runFrom key j size k′ p
@@ -55,9 +61,11 @@ module _ (key : List ℕ) where
     fuel j (suc k) zero p h e e′ = absurd (omega arith)
     fuel j (suc k) (suc k′) p h e e′ = go (eq-or-lt-of-le h) (fuel j k k′)
       where
-        go : (p ≡ length j) ⊎ (p < length j) → ((q : ℕ) → q ≤ length j → length j < k + q → length j < k′ + q → runFrom key j size k q ≡ runFrom key j size k′ q) → runFrom key j size (suc k) p ≡ runFrom key j size (suc k′) p
+        go : (p ≡ length j) ⊎ (p < length j)
+            → ((q : ℕ) → q ≤ length j → length j < k + q → length j < k′ + q → runFrom key j size k q ≡ runFrom key j size k′ q)
+            → runFrom key j size (suc k) p ≡ runFrom key j size (suc k′) p
         go (inl q) ih = simp (q, at-end key j (length j) size big refl)
-        go (inr l) ih = simp (ne-eqb _ 14 (moves j p l .2), ih (readAt key j p size .answer .next) (moves j p l .1) (omega (arith, moves j p l)) (omega (arith, moves j p l)))
+        go (inr l) ih = let m = moves j p l in simp (ne-eqb _ 14 (m .not-end), ih (readAt key j p size .answer .next) (m .within) (omega arith) (omega arith))
 
     -- at most k calls, of which only the last says end, where k are enough to reach it
     record EndsFrom (j : List ℕ) (k p : ℕ) : Type 0 where
@@ -80,12 +88,12 @@ module _ (key : List ℕ) where
         }
         go (inr l) ih =
             let m = moves j p l in
-            let t = ih (readAt key j p size .answer .next) (m .1) (omega arith) in
+            let t = ih (readAt key j p size .answer .next) (m .within) (omega arith) in
             record {
               before = entry p (readAt key j p size) ∷ t .before;
-              no-sooner = (m .2, t .no-sooner);
-              splits = simp (ne-eqb _ 14 (m .2), t .splits);
-              calls = simp (ne-eqb _ 14 (m .2)) (omega (arith, t .calls));
+              no-sooner = (m .not-end, t .no-sooner);
+              splits = simp (ne-eqb _ 14 (m .not-end), t .splits);
+              calls = simp (ne-eqb _ 14 (m .not-end)) (omega (arith, t .calls));
             }
 
     pub ends : (j : List ℕ) → Ends key j size
@@ -95,8 +103,6 @@ module _ (key : List ℕ) where
         record { before = t .before; no-sooner = t .no-sooner; splits = t .splits; calls = omega (arith, t .calls) }
 
 -- the same of what the reader promises
-pub forward : {j key frame frame' : List ℕ} {place : ℕ} {r : Answer} → LineRead j place key frame r frame' → 353 ≤ length frame → place < length j → (place < r .next) × (r .next ≤ length j)
-forward {j} {key} {frame} {frame'} {place} h big l =
-    let m = moves key (length frame) big j place l in
-    let e = ap (λ (a : Answer). a .next) (h .answer) in
-    (omega arith, omega arith)
+pub forward : {j key frame frame' : List ℕ} {place : ℕ} {r : Answer}
+    → LineRead j place key frame r frame' → 353 ≤ length frame → place < length j → Moves j place r
+forward {j} {key} {frame} {frame'} {place} h big l = rw (h .answer) (moves key (length frame) big j place l)

@@ -54,7 +54,8 @@ not-opened {journal} {key} {frame} {frame'} {place} {r} h e =
 
 -- ---- the writer
 
-writing-untouched : (line old : List ℕ) (size k : ℕ) → (writing line old size k .report .number ≡ 0 → ⊥) → Untouched old (writing line old size k .report) (writing line old size k .buffer)
+writing-untouched : (line old : List ℕ) (size k : ℕ) → (writing line old size k .report .number ≡ 0 → ⊥)
+    → Untouched old (writing line old size k .report) (writing line old size k .buffer)
 unfolding writing
 writing-untouched line old size zero e = absurd (e refl)
 writing-untouched line old size (suc k) e = record { kept = refl; length = refl }

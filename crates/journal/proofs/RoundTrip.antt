@@ -29,7 +29,8 @@ use Rattle.journal.proofs.Sizes.{line-size}
 use Rattle.journal.proofs.Run.{at-line, one-line}
 use Rattle.journal.proofs.Damage.{isolated, shifts}
 
-handed-shift : (key nonce ad message : List ℕ) (d next size : ℕ) → shift d (handed key nonce ad message next size) ≡ handed key nonce ad message (d + next) size
+handed-shift : (key nonce ad message : List ℕ) (d next size : ℕ)
+    → shift d (handed key nonce ad message next size) ≡ handed key nonce ad message (d + next) size
 unfolding shift handed opened
 handed-shift key nonce ad message d next size = refl
 
@@ -40,15 +41,20 @@ unfolding writing
 writing-number line old size zero = refl
 writing-number line old size (suc k) = refl
 
-module _ {key nonce ad message line line' : List ℕ} {r : Line} (len : length nonce ≡ 16) (bn : Bytes nonce) (ba : Bytes ad) (bm : Bytes message) (w : LineWritten key nonce ad message line r line') (z : r .number ≡ 0) where
+module _ {key nonce ad message line line' : List ℕ} {r : Line}
+    (len : length nonce ≡ 16) (bn : Bytes nonce) (ba : Bytes ad) (bm : Bytes message)
+    (w : LineWritten key nonce ad message line r line') (z : r .number ≡ 0) where
   number : writerNumber (length ad) (length message) (length line) ≡ 0
   unfolding writeInto
-  number = sym (writing-number (lineOf key nonce ad message) line (lineLength (length ad) (length message)) (writerNumber (length ad) (length message) (length line))) ∙ sym (ap (λ (a : Line). a .number) (w .report)) ∙ z
+  number =
+      let k = writerNumber (length ad) (length message) (length line) in
+      sym (writing-number (lineOf key nonce ad message) line (lineLength (length ad) (length message)) k) ∙ sym (ap (λ (a : Line). a .number) (w .report)) ∙ z
 
   fits : Fits nonce ad message
   unfolding writerNumber writerTests
   fits =
-      let p : AllPass (writerTests (length ad) (length message) (length line)) = zero-pass (writerTests (length ad) (length message) (length line)) (tt, (tt, (tt, tt))) number in
+      let tests = writerTests (length ad) (length message) (length line) in
+      let p : AllPass tests = zero-pass tests (tt, (tt, (tt, tt))) number in
       record {
         nonce16 = len;
         ad64 = leb-true (length ad) 64 (p .0);
@@ -80,14 +86,18 @@ module _ {key nonce ad message line line' : List ℕ} {r : Line} (len : length n
 
   module _ (size : ℕ) (big : 353 ≤ size) where
     -- from any place at which it stands
-    pub read-anywhere : (P T : List ℕ) → readAt key (P ++ (take (r .length) line' ++ T)) (length P) size ≡ handed key nonce ad message (length P + r .length) size
+    pub read-anywhere : (P T : List ℕ)
+        → readAt key (P ++ (take (r .length) line' ++ T)) (length P) size ≡ handed key nonce ad message (length P + r .length) size
     read-anywhere P T =
         ap (λ (p : ℕ). readAt key (P ++ (take (r .length) line' ++ T)) p size) (sym (add-zero (length P)))
         ∙ read-shift key size P (take (r .length) line' ++ T) 0
-        ∙ rw (journal-is T, at-line key size big (hexOf (frameOf key nonce ad message)) T plain, line-opens key nonce ad message fits, digits-length) (handed-shift key nonce ad message (length P) (r .length) size)
+        ∙ rw (journal-is T, at-line key size big (hexOf (frameOf key nonce ad message)) T plain, line-opens key nonce ad message fits, digits-length)
+        (handed-shift key nonce ad message (length P) (r .length) size)
 
     -- in the run, at the start of a journal
-    pub run-first : (T : List ℕ) → run key (take (r .length) line' ++ T) size ≡ entry 0 (handed key nonce ad message (r .length) size) ∷ map (shiftEntry (r .length)) (run key T size)
+    pub run-first : (T : List ℕ)
+        → run key (take (r .length) line' ++ T) size
+        ≡ entry 0 (handed key nonce ad message (r .length) size) ∷ map (shiftEntry (r .length)) (run key T size)
     run-first T = rw (journal-is T, one-line key size big (hexOf (frameOf key nonce ad message)) T plain, line-opens key nonce ad message fits, digits-length)
 
     -- in the run, after any newline
@@ -106,7 +116,8 @@ module _ {key nonce ad message line line' : List ℕ} {r : Line} (len : length n
       × (frame' ≡ frameWith nonce ad message (sealTag key nonce ad message) ++ replicate (length frame - (33 + length ad + length message)) 170)
   unfolding handed opened
   handed-out {frame} P T big h =
-      let k : length (frameWith nonce ad message (sealTag key nonce ad message)) ≡ 33 + length ad + length message = omega (arith, frame-length nonce ad message (sealTag key nonce ad message), tag-length key nonce ad message) in
+      let t = sealTag key nonce ad message in
+      let k : length (frameWith nonce ad message t) ≡ 33 + length ad + length message = omega (arith, frame-length nonce ad message t, tag-length key nonce ad message) in
       let e = read-anywhere (length frame) big P T in (
         h .answer ∙ ap (λ (x : Reading). x .answer) e,
         h .buffer ∙ ap (λ (x : Reading). x .buffer) e ∙ rw k,

@@ -13,7 +13,8 @@ use Rattle.journal.specs.Reader.{refused, textTests, frameTests, tagTest
 use Rattle.journal.proofs.Tests.{AllPass, zero-pass, pass-first, fail-first}
 
 -- the rows before the others decide
-given-first : (key f : List ℕ) (next size number : ℕ) (a b : List Test) → number ≡ firstFailing a → (number ≡ 0 → ⊥) → given key f next size (firstFailing (a ++ b)) ≡ refused number next size
+given-first : (key f : List ℕ) (next size number : ℕ) (a b : List Test) → number ≡ firstFailing a → (number ≡ 0 → ⊥)
+    → given key f next size (firstFailing (a ++ b)) ≡ refused number next size
 unfolding given
 given-first key f next size zero a b e h = absurd (h refl)
 given-first key f next size (suc k) a b e h = rw (fail-first a b k (sym e))
@@ -47,7 +48,8 @@ unfolding frameTests
 frame-pass f e = zero-pass (frameTests f) (tt, (tt, (tt, (tt, tt)))) e
 
 -- what the frame's tests say of the frame at a buffer's front
-pub passed : (b : List ℕ) (count : ℕ) → count ≤ length b → firstFailing (frameTests (take count b)) ≡ 0 → (33 + getD b 16 0 ≤ count) × (getD b 16 0 ≤ 64)
+pub passed : (b : List ℕ) (count : ℕ) → count ≤ length b → firstFailing (frameTests (take count b)) ≡ 0
+    → (33 + getD b 16 0 ≤ count) × (getD b 16 0 ≤ 64)
 unfolding frameTests
 passed b count h e =
     let f = take count b in

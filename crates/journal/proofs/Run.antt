@@ -23,6 +23,10 @@ pub every-map : (P Q : Entry → Type 0) → ((e : Entry) → P e → Q e) → (
 every-map P Q f [] h = tt
 every-map P Q f (e ∷ es) h = (f e (h .0), every-map P Q f es (h .1))
 
+every-cond : (P : Entry → Type 0) (b : Bool) (l : List Entry) → Every P l → Every P (cond b [] l)
+every-cond P true l h = tt
+every-cond P false l h = h
+
 module _ (key : List ℕ) (size : ℕ) (big : 353 ≤ size) where
   -- a line's answer
   pub at-line : (s t : List ℕ) → Plain s → readAt key (s ++ newline ∷ t) 0 size ≡ readText key s (length s + 1) size
@@ -31,20 +35,24 @@ module _ (key : List ℕ) (size : ℕ) (big : 353 ≤ size) where
       ∙ rw (newlineAt-plain s t h, lt-leb (length (s ++ newline ∷ t)) (length s) (omega (arith, length-append s (newline ∷ t))), take-append-seam s (newline ∷ t), zero-add)
 
   -- then the run of the rest, shifted
-  rest-run : (s t : List ℕ) (k : ℕ) → length t < k → runFrom key (s ++ newline ∷ t) size k (length s + 1) ≡ map (shiftEntry (length s + 1)) (run key t size)
+  rest-run : (s t : List ℕ) (k : ℕ) → length t < k
+      → runFrom key (s ++ newline ∷ t) size k (length s + 1) ≡ map (shiftEntry (length s + 1)) (run key t size)
   unfolding run
   rest-run s t k l =
       simp (append-snoc, length-append, add-zero) at (run-shift key size (s ++ (newline ∷ [])) t k 0)
       ∙ ap (map (shiftEntry (length s + 1))) (fuel key size big t k (suc (length t)) 0 (omega arith) (omega arith) (omega arith))
 
-  pub one-line : (s t : List ℕ) → Plain s → run key (s ++ newline ∷ t) size ≡ entry 0 (readText key s (length s + 1) size) ∷ map (shiftEntry (length s + 1)) (run key t size)
+  pub one-line : (s t : List ℕ) → Plain s
+      → run key (s ++ newline ∷ t) size ≡ entry 0 (readText key s (length s + 1) size) ∷ map (shiftEntry (length s + 1)) (run key t size)
   unfolding run runFrom readText
   one-line s t h =
       simp (at-line s t h, given-number, given-next, ne-eqb (firstFailing (lineTests key s)) 14 (omega (arith, text-le key s)))
-      (ap (λ (l : List Entry). entry 0 (readText key s (length s + 1) size) ∷ l) (rest-run s t (length (s ++ newline ∷ t)) (omega (arith, length-append s (newline ∷ t)))))
+      (ap (λ (l : List Entry). entry 0 (readText key s (length s + 1) size) ∷ l)
+      (rest-run s t (length (s ++ newline ∷ t)) (omega (arith, length-append s (newline ∷ t)))))
 
   -- no newline: one answer 11, then the end
-  pub last-line : (s : List ℕ) → Plain s → 0 < length s → run key s size ≡ entry 0 (refused 11 (length s) size) ∷ entry (length s) (refused 14 (length s) size) ∷ []
+  pub last-line : (s : List ℕ) → Plain s → 0 < length s
+      → run key s size ≡ entry 0 (refused 11 (length s) size) ∷ entry (length s) (refused 14 (length s) size) ∷ []
   unfolding run runFrom refused
   last-line (x ∷ s) h l = simp (unended key (x ∷ s) 0 size big (omega arith) (omega arith), at-end key (x ∷ s) (length (x ∷ s)) size big refl)
 
@@ -56,8 +64,5 @@ module _ (key : List ℕ) (size : ℕ) (big : 353 ≤ size) where
   pub reads : (j : List ℕ) (k p : ℕ) → Every (λ (e : Entry). e .reading ≡ readAt key j (e .place) size) (runFrom key j size k p)
   unfolding runFrom
   reads j zero p = tt
-  reads j (suc k) p = (refl, go (eqb (readAt key j p size .answer .number) 14) (reads j k (readAt key j p size .answer .next)))
-    where
-      go : (b : Bool) → Every (λ (e : Entry). e .reading ≡ readAt key j (e .place) size) (runFrom key j size k (readAt key j p size .answer .next)) → Every (λ (e : Entry). e .reading ≡ readAt key j (e .place) size) (cond b [] (runFrom key j size k (readAt key j p size .answer .next)))
-      go true ih = tt
-      go false ih = ih
+  reads j (suc k) p =
+      (refl, every-cond _ (eqb (readAt key j p size .answer .number) 14) _ (reads j k (readAt key j p size .answer .next)))

@@ -43,7 +43,8 @@ module _ (b p s : List ℕ) where
 same-call : {w w' : Morus} {d m m' y : List ℕ} {r : Sealed} → w ≡ w' → m ≡ m' → Encrypted w d m r y → Encrypted w' d m' r y
 same-call e₁ e₂ h = rw (e₁, e₂) at h
 
-whole : (b nonce ad c t : List ℕ) (k : ℕ) → k ≡ length (frameWith nonce ad c t) → on b ((((nonce ++ (length ad ∷ [])) ++ ad) ++ c) ++ t) ≡ frameWith nonce ad c t ++ drop k b
+whole : (b nonce ad c t : List ℕ) (k : ℕ) → k ≡ length (frameWith nonce ad c t)
+    → on b ((((nonce ++ (length ad ∷ [])) ++ ad) ++ c) ++ t) ≡ frameWith nonce ad c t ++ drop k b
 whole b nonce ad c t k e =
     let g : (((nonce ++ (length ad ∷ [])) ++ ad) ++ c) ++ t ≡ frameWith nonce ad c t = simp append-assoc in
     rw (g, e)

@@ -35,6 +35,10 @@ unfolding shift given opened refused
 given-shift key f d next size zero = refl
 given-shift key f d next size (suc k) = refl
 
+cond-map : (d : ℕ) (t : Bool) {l : List Entry} (l′ : List Entry) → l ≡ map (shiftEntry d) l′ → cond t [] l ≡ map (shiftEntry d) (cond t [] l′)
+cond-map d true l′ e = refl
+cond-map d false l′ e = e
+
 module _ (key : List ℕ) (size : ℕ) (a b : List ℕ) where
   pub read-shift : (p : ℕ) → readAt key (a ++ b) (length a + p) size ≡ shift (length a) (readAt key b p size)
   unfolding readAt readText
@@ -43,8 +47,7 @@ module _ (key : List ℕ) (size : ℕ) (a b : List ℕ) where
   pub run-shift : (k p : ℕ) → runFrom key (a ++ b) size k (length a + p) ≡ map (shiftEntry (length a)) (runFrom key b size k p)
   unfolding runFrom shiftEntry shift
   run-shift zero p = refl
-  run-shift (suc k) p = rw (read-shift p) (ap (λ (l : List Entry). shiftEntry (length a) (entry p (readAt key b p size)) ∷ l) (go (eqb (readAt key b p size .answer .number) 14) (run-shift k (readAt key b p size .answer .next))))
-    where
-      go : (t : Bool) → runFrom key (a ++ b) size k (length a + readAt key b p size .answer .next) ≡ map (shiftEntry (length a)) (runFrom key b size k (readAt key b p size .answer .next)) → cond t [] (runFrom key (a ++ b) size k (length a + readAt key b p size .answer .next)) ≡ map (shiftEntry (length a)) (cond t [] (runFrom key b size k (readAt key b p size .answer .next)))
-      go true ih = refl
-      go false ih = ih
+  run-shift (suc k) p =
+      rw (read-shift p)
+      (ap (λ (l : List Entry). shiftEntry (length a) (entry p (readAt key b p size)) ∷ l)
+      (cond-map (length a) (eqb (readAt key b p size .answer .number) 14) _ (run-shift k (readAt key b p size .answer .next))))

@@ -37,7 +37,8 @@ start-shift s t zero = rw (add-zero, getD-append-seam)
 start-shift s t (suc q) =
     rw (getD-append-add, length-append, ← add-suc, eqb-add, eqb·suc-suc)
 
-starts-shift : (s t : List ℕ) (q k : ℕ) → startsAmong (s ++ newline ∷ t) (suc (length s + q)) k ≡ map (λ (p : ℕ). length s + 1 + p) (startsAmong t q k)
+starts-shift : (s t : List ℕ) (q k : ℕ)
+    → startsAmong (s ++ newline ∷ t) (suc (length s + q)) k ≡ map (λ (p : ℕ). length s + 1 + p) (startsAmong t q k)
 unfolding startsAmong
 starts-shift s t q zero = refl
 starts-shift s t q (suc k) = rw (start-shift s t q) (go (isStart t q) (rw (add-suc (length s) q) at (starts-shift s t (suc q) k)))
@@ -85,13 +86,15 @@ module _ (key : List ℕ) (size : ℕ) (big : 353 ≤ size) where
   starts-fuel (suc k) [] h = rw (no-line key size big)
   starts-fuel (suc k) (x ∷ j) h = go (x ∷ j) (omega arith) (eq-or-lt-of-le (newlineAt-le (x ∷ j))) (starts-fuel k)
     where
-      go : (j : List ℕ) → (0 < length j) × (length j ≤ suc k) → (newlineAt j ≡ length j) ⊎ (newlineAt j < length j) → ((t : List ℕ) → length t ≤ k → places (run key t size) ≡ starts t) → places (run key j size) ≡ starts j
+      go : (j : List ℕ) → (0 < length j) × (length j ≤ suc k) → (newlineAt j ≡ length j) ⊎ (newlineAt j < length j)
+          → ((t : List ℕ) → length t ≤ k → places (run key t size) ≡ starts t) → places (run key j size) ≡ starts j
       go j h (inl e) ih = rw (last-line key size big j e (h .0), starts-last j e (h .0))
       go j h (inr l) ih =
           let s = textOf j in
           let t = drop (suc (newlineAt j)) j in
           subst (λ (j : List ℕ). places (run key j size) ≡ starts j) (sym (cut j l))
-          (rw (one-line key size big s t (textOf-plain j), places-shift (length s + 1) (run key t size), ih t (omega (arith, length-drop (suc (newlineAt j)) j)), starts-line s t (textOf-plain j)))
+          (rw (one-line key size big s t (textOf-plain j), places-shift (length s + 1) (run key t size))
+          (rw (ih t (omega (arith, length-drop (suc (newlineAt j)) j)), starts-line s t (textOf-plain j))))
 
   -- nothing is skipped
   pub run-starts : (j : List ℕ) → places (run key j size) ≡ starts j

@@ -64,6 +64,7 @@ unfolding firstFailing
 fail-first [] b k e = absurd (omega arith)
 fail-first (t ∷ ts) b k e = go (t .0) (fail-first ts b k) e
   where
-    go : (c : Bool) → (firstFailing ts ≡ suc k → firstFailing (ts ++ b) ≡ suc k) → cond c (firstFailing ts) (t .1) ≡ suc k → cond c (firstFailing (ts ++ b)) (t .1) ≡ suc k
+    go : (c : Bool) → (firstFailing ts ≡ suc k → firstFailing (ts ++ b) ≡ suc k) → cond c (firstFailing ts) (t .1) ≡ suc k
+        → cond c (firstFailing (ts ++ b)) (t .1) ≡ suc k
     go true ih e = ih e
     go false ih e = e

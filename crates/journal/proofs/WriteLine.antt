@@ -38,7 +38,8 @@ module _ (key nonce ad message line : List ℕ) where
         record { report = rw (t, u); buffer = rw (t, u) }
 
     module _ (short : length message ≤ 256) where
-      pub no-room : length line < lineLength (length ad) (length message) → LineWritten key nonce ad message line (record { number = 15; length = 0 }) line
+      pub no-room : length line < lineLength (length ad) (length message)
+          → LineWritten key nonce ad message line (record { number = 15; length = 0 }) line
       unfolding writeInto writerNumber writerTests firstFailing writing
       no-room h =
           let t = le-leb (length ad) 64 few in

@@ -1,5 +1,5 @@
 -- The words of the theorems about runs.
-use Prim.Native.Nat.{ℕ, _+_, _≤_}
+use Prim.Native.Nat.{ℕ, _+_, _≤_, _<_}
 use mathlib.Core.Path.{_≡_}
 use mathlib.Core.Logic.{_↔_}
 use mathlib.Core.List.{List, [], _∷_, _++_, map}
@@ -22,6 +22,12 @@ Pairwise R [] [] = Unit {0}
 Pairwise R [] (y ∷ ys) = ⊥
 Pairwise R (x ∷ xs) [] = ⊥
 Pairwise R (x ∷ xs) (y ∷ ys) = R x y × Pairwise R xs ys
+
+-- a reading from place p inside the journal moves forward, to at most its length, and is not the end answer
+pub record Moves (j : List ℕ) (p : ℕ) (r : Answer) : Type 0 where
+  pub ahead : p < r .next
+  pub within : r .next ≤ length j
+  pub not-end : r .number ≡ 14 → ⊥
 
 -- the run ends by call L + 1, in the end answer and no sooner
 pub record Ends (key j : List ℕ) (size : ℕ) : Type 0 where

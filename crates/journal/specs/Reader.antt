@@ -57,6 +57,10 @@ unfoldable pub given : (key f : List ℕ) → (next size number : ℕ) → Readi
 given key f next size zero = opened next (nIn f) (mIn f) size (openedFrame key f)
 given key f next size (suc k) = refused (suc k) next size
 
+-- a frame whose sizes are right
+abbrev pub openFrame : (key f : List ℕ) → (next size : ℕ) → Reading
+openFrame key f next size = given key f next size (firstFailing (tagTests key f))
+
 -- a frame whose digits have been read
 unfoldable pub readFrame : (key f : List ℕ) → (next size : ℕ) → Reading
 readFrame key f next size = given key f next size (firstFailing (frameTests f ++ tagTests key f))

@@ -1,11 +1,15 @@
 -- Writing puts the line at the front of the lent line buffer, keeps the bytes behind it, and reports its length.
-use Prim.Native.Nat.{ℕ, zero, suc}
+use Prim.Native.Nat.{ℕ, zero, suc, _+_}
 use mathlib.Core.List.{List, [], _∷_, _++_}
 use lib.ListN.{length, drop}
 use lib.Dec.{leb}
 use Rattle.journal.specs.declared.Line.{Line}
-use Rattle.journal.specs.Line.{lineOf, lineLength}
+use Rattle.journal.specs.Line.{frameOf, lineOf, lineLength}
 use Rattle.journal.specs.Tests.{Test, firstFailing}
+
+-- the sealed frame at the front of a buffer
+abbrev pub frameInto : (key nonce ad message old : List ℕ) → List ℕ
+frameInto key nonce ad message old = frameOf key nonce ad message ++ drop (33 + length ad + length message) old
 
 -- the report, and the line buffer afterwards
 pub record Writing : Type 0 where

@@ -1,5 +1,5 @@
 // Bytes in buffers: a copy, sixteen bytes out, and 0xaa to the end.
-use crate::numbers::FILL;
+use crate::numbers;
 ghost use mathlib.Core.Path.{_≡_};
 ghost use Prim.Native.Nat.{_+_, _-_, _≤_};
 ghost use mathlib.Core.List.{_++_};
@@ -34,7 +34,7 @@ pub(crate) fn fill(buffer: &mut [u8], from: usize)
 {
     let mut i = from;
     while i < buffer.len() {
-        buffer[i] = FILL;
+        buffer[i] = numbers::FILL;
         i += 1;
     }
 }

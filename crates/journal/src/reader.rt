@@ -3,24 +3,7 @@ use crate::Answer;
 use crate::bytes::copy;
 use crate::bytes::fill;
 use crate::bytes::sixteen;
-use crate::numbers::BUFFER_TOO_SMALL;
-use crate::numbers::DATA_PAST_FRAME;
-use crate::numbers::DATA_TOO_LONG;
-use crate::numbers::DONE;
-use crate::numbers::END;
-use crate::numbers::FIXED;
-use crate::numbers::FRAME_TOO_SHORT;
-use crate::numbers::LINE_TOO_LONG;
-use crate::numbers::MESSAGE_TOO_LONG;
-use crate::numbers::MOST_DATA;
-use crate::numbers::MOST_DIGITS;
-use crate::numbers::MOST_FRAME;
-use crate::numbers::MOST_MESSAGE;
-use crate::numbers::NEWLINE;
-use crate::numbers::NO_NEWLINE;
-use crate::numbers::NOT_DIGIT;
-use crate::numbers::ODD;
-use crate::numbers::PLACE_BEYOND;
+use crate::numbers;
 use hex::Read;
 use morus::Key;
 use morus::Morus;
@@ -29,7 +12,7 @@ ghost use Prim.Native.Nat.{_+_, _≤_};
 ghost use lib.ListN.{length, getD, take, drop};
 ghost use Rattle.journal.specs.Line.{newlineAt};
 ghost use Rattle.journal.specs.Tests.{firstFailing};
-ghost use Rattle.journal.specs.Reader.{Gives, refused, frameTests, tagTests, given, readFrame, readText};
+ghost use Rattle.journal.specs.Reader.{Gives, refused, frameTests, openFrame, readFrame, readText};
 ghost use Rattle.journal.specs.Promise.{LineRead};
 
 // The answer with `number` and the whole buffer 0xaa: where every refusal ends.
@@ -55,7 +38,7 @@ fn find_newline(journal: &[u8], place: usize) -> usize
         if i == journal.len() {
             break journal.len();
         }
-        if journal[i] == NEWLINE {
+        if journal[i] == numbers::NEWLINE {
             break i;
         }
         i += 1;
@@ -67,26 +50,26 @@ fn find_newline(journal: &[u8], place: usize) -> usize
 fn frame_number(frame: &[u8]) -> u8
     ensures { λ r. ⌜ r ≡ firstFailing (frameTests (now (frame .entry))) ⌝ }
 {
-    if frame.len() < FIXED {
-        return FRAME_TOO_SHORT;
+    if frame.len() < numbers::FIXED {
+        return numbers::FRAME_TOO_SHORT;
     }
     let n = frame[16] as usize;
-    if MOST_DATA < n {
-        return DATA_TOO_LONG;
+    if numbers::MOST_DATA < n {
+        return numbers::DATA_TOO_LONG;
     }
-    if frame.len() < FIXED + n {
-        return DATA_PAST_FRAME;
+    if frame.len() < numbers::FIXED + n {
+        return numbers::DATA_PAST_FRAME;
     }
-    if MOST_MESSAGE < frame.len() - (FIXED + n) {
-        return MESSAGE_TOO_LONG;
+    if numbers::MOST_MESSAGE < frame.len() - (numbers::FIXED + n) {
+        return numbers::MESSAGE_TOO_LONG;
     }
-    DONE
+    numbers::DONE
 }
 
 // The frame at the buffer's front, whose tests have passed, is opened where it stands.
 fn open_frame(count: usize, next: usize, key: Key, frame: &mut [u8]) -> Answer
     requires { ⌜ (count ≤ 353) × (353 ≤ length (now frame)) × (33 + getD (now frame) 16 0 ≤ count) × (getD (now frame) 16 0 ≤ 64) ⌝ }
-    ensures { λ r. ⌜ Gives (given key (take count (now (frame .entry))) next (length (now (frame .entry))) (firstFailing (tagTests key (take count (now (frame .entry)))))) r (now (frame .exit)) ⌝ }
+    ensures { λ r. ⌜ Gives (openFrame key (take count (now (frame .entry))) next (length (now (frame .entry)))) r (now (frame .exit)) ⌝ }
 {
     let n = frame[16] as usize;
     let start = 17 + n;
@@ -94,15 +77,15 @@ fn open_frame(count: usize, next: usize, key: Key, frame: &mut [u8]) -> Answer
     let nonce = sixteen(frame, 0);
     let tag = sixteen(frame, end);
     // The data is copied, since the buffer cannot be lent twice at a time.
-    let mut data = [0u8; 64];
+    let mut data = [0u8; numbers::MOST_DATA];
     copy(&mut data, 0, frame, 17, n);
     let number = Morus::new(nonce, key).decrypt_in_place(&mut frame[start..end], tag, &data[..n]);
-    if number != DONE {
+    if number != numbers::DONE {
         return refuse(number, next, frame);
     }
     fill(frame, count);
     Answer {
-        number: DONE,
+        number: numbers::DONE,
         next,
         n,
         m: end - start,
@@ -115,7 +98,7 @@ fn read_frame(count: usize, next: usize, key: Key, frame: &mut [u8]) -> Answer
     ensures { λ r. ⌜ Gives (readFrame key (take count (now (frame .entry))) next (length (now (frame .entry)))) r (now (frame .exit)) ⌝ }
 {
     let number = frame_number(&frame[..count]);
-    if number != DONE {
+    if number != numbers::DONE {
         return refuse(number, next, frame);
     }
     open_frame(count, next, key, frame)
@@ -126,32 +109,34 @@ fn read_text(text: &[u8], next: usize, key: Key, frame: &mut [u8]) -> Answer
     requires { ⌜ 353 ≤ length (now frame) ⌝ }
     ensures { λ r. ⌜ Gives (readText key (now (text .entry)) next (length (now (frame .entry)))) r (now (frame .exit)) ⌝ }
 {
-    if MOST_DIGITS < text.len() {
-        return refuse(LINE_TOO_LONG, next, frame);
+    if numbers::MOST_DIGITS < text.len() {
+        return refuse(numbers::LINE_TOO_LONG, next, frame);
     }
     match hex::read(text, frame) {
         Read::Bytes(count) => read_frame(count, next, key, frame),
-        Read::NotDigit => refuse(NOT_DIGIT, next, frame),
-        Read::Odd => refuse(ODD, next, frame),
-        Read::NoRoom => refuse(BUFFER_TOO_SMALL, next, frame),
+        Read::NotDigit => refuse(numbers::NOT_DIGIT, next, frame),
+        Read::Odd => refuse(numbers::ODD, next, frame),
+        // Never: a text of 706 digits is 353 bytes.
+        Read::NoRoom => refuse(numbers::BUFFER_TOO_SMALL, next, frame),
     }
 }
 
+// The answer to the line from `place` to the next newline, with its frame, opened, at the front of the lent buffer.
 pub fn read_line(journal: &[u8], place: usize, key: Key, frame: &mut [u8]) -> Answer
     ensures { λ r. ⌜ LineRead (now (journal .entry)) place key (now (frame .entry)) r (now (frame .exit)) ⌝ }
 {
-    if frame.len() < MOST_FRAME {
-        return refuse(BUFFER_TOO_SMALL, place, frame);
+    if frame.len() < numbers::MOST_FRAME {
+        return refuse(numbers::BUFFER_TOO_SMALL, place, frame);
     }
     if journal.len() < place {
-        return refuse(PLACE_BEYOND, place, frame);
+        return refuse(numbers::PLACE_BEYOND, place, frame);
     }
     if place == journal.len() {
-        return refuse(END, place, frame);
+        return refuse(numbers::END, place, frame);
     }
     let end = find_newline(journal, place);
     if end == journal.len() {
-        return refuse(NO_NEWLINE, end, frame);
+        return refuse(numbers::NO_NEWLINE, end, frame);
     }
     read_text(&journal[place..end], end + 1, key, frame)
 }

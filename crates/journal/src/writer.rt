@@ -1,29 +1,21 @@
 // Writing a line into a lent line buffer.
 use crate::Line;
 use crate::bytes::copy;
-use crate::numbers::DATA_TOO_LONG;
-use crate::numbers::DONE;
-use crate::numbers::FIXED;
-use crate::numbers::LINE_TOO_SMALL;
-use crate::numbers::MESSAGE_TOO_LONG;
-use crate::numbers::MOST_DATA;
-use crate::numbers::MOST_MESSAGE;
-use crate::numbers::NEWLINE;
+use crate::numbers;
 use hex::Written;
 use morus::Key;
 use morus::Morus;
 use morus::Nonce;
 ghost use mathlib.Core.Path.{_≡_};
-ghost use Prim.Native.Nat.{_+_, _≤_};
-ghost use mathlib.Core.List.{_++_};
-ghost use lib.ListN.{length, drop};
-ghost use Rattle.journal.specs.Line.{frameOf};
+ghost use Prim.Native.Nat.{_≤_};
+ghost use lib.ListN.{length};
+ghost use Rattle.journal.specs.Writer.{frameInto};
 ghost use Rattle.journal.specs.Promise.{LineWritten};
 
 // The sealed frame, at the front of the buffer.
 fn seal_frame(key: Key, nonce: Nonce, data: &[u8], message: &[u8], frame: &mut [u8])
     requires { ⌜ (length (now «data») ≤ 64) × (length (now message) ≤ 256) × (353 ≤ length (now frame)) ⌝ }
-    ensures { λ _. ⌜ now (frame .exit) ≡ frameOf key nonce (now («data» .entry)) (now (message .entry)) ++ drop (33 + length (now («data» .entry)) + length (now (message .entry))) (now (frame .entry)) ⌝ }
+    ensures { λ _. ⌜ now (frame .exit) ≡ frameInto key nonce (now («data» .entry)) (now (message .entry)) (now (frame .entry)) ⌝ }
 {
     let n = data.len();
     let m = message.len();
@@ -38,40 +30,41 @@ fn seal_frame(key: Key, nonce: Nonce, data: &[u8], message: &[u8], frame: &mut [
     copy(frame, end, &tag, 0, 16);
 }
 
+// The line of nonce, data and message at the front of the lent buffer, or a refusal that leaves the buffer as it was.
 pub fn write_line(key: Key, nonce: Nonce, data: &[u8], message: &[u8], line: &mut [u8]) -> Line
     ensures { λ r. ⌜ LineWritten key nonce (now («data» .entry)) (now (message .entry)) (now (line .entry)) r (now (line .exit)) ⌝ }
 {
-    if MOST_DATA < data.len() {
+    if numbers::MOST_DATA < data.len() {
         return Line {
-            number: DATA_TOO_LONG,
+            number: numbers::DATA_TOO_LONG,
             length: 0,
         };
     }
-    if MOST_MESSAGE < message.len() {
+    if numbers::MOST_MESSAGE < message.len() {
         return Line {
-            number: MESSAGE_TOO_LONG,
+            number: numbers::MESSAGE_TOO_LONG,
             length: 0,
         };
     }
-    let count = FIXED + data.len() + message.len();
+    let count = numbers::FIXED + data.len() + message.len();
     if line.len() < 2 * count + 1 {
         return Line {
-            number: LINE_TOO_SMALL,
+            number: numbers::LINE_TOO_SMALL,
             length: 0,
         };
     }
-    let mut frame = [0u8; 353];
+    let mut frame = [0u8; numbers::MOST_FRAME];
     seal_frame(key, nonce, data, message, &mut frame);
     match hex::write(&frame[..count], line) {
         Written::Digits(digits) => {
-            line[digits] = NEWLINE;
+            line[digits] = numbers::NEWLINE;
             Line {
-                number: DONE,
+                number: numbers::DONE,
                 length: digits + 1,
             }
         }
         Written::NoRoom => Line {
-            number: LINE_TOO_SMALL,
+            number: numbers::LINE_TOO_SMALL,
             length: 0,
         },
     }

@@ -140,13 +140,12 @@ module _ (s : State) (b : List ℕ) (n : ℕ) (e : n ≡ min (length b) 32) wher
   sealed-bytes : {p d : List ℕ} → p ≡ padded 32 (take n b) → d ≡ xorBytes p (stream s) → take n d ≡ xorBytes b (stream s)
   sealed-bytes ep ed = rw (ed, ep, block-same) (part-out b n e s)
 
--- a whole block opened
-opened-state : (s : State) (b : List ℕ) {p : List ℕ} {s' : State} → 32 ≤ length b → p ≡ padded 32 (take 32 b) → s' ≡ opening s p → s' ≡ opening s b
-unfolding opening
-opened-state s b {p} {s'} h ep es =
+-- a whole block opened: what is xored of its block is what is xored of b
+pub whole-out : (s : State) (b : List ℕ) {p : List ℕ} → 32 ≤ length b → p ≡ padded 32 (take 32 b) → xorBytes p (stream s) ≡ xorBytes b (stream s)
+whole-out s b {p} h ep =
     let e : take 32 (xorBytes p (stream s)) ≡ xorBytes b (stream s) = sealed-bytes s b 32 (omega arith) ep refl in
     let a : take 32 (xorBytes p (stream s)) ≡ xorBytes p (stream s) = take-all 32 _ (rw (length-xor, length-stream) (omega arith)) in
-    rw (es, sym a ∙ e)
+    sym a ∙ e
 
 -- the last part opened
 part-bytes : (s : State) (b : List ℕ) {d : List ℕ} → length b ≤ 32 → d ≡ padded 32 (xorBytes b (stream s)) → take (length b) d ≡ xorBytes b (stream s)
@@ -165,11 +164,11 @@ cover-on {s₀} {s} {s'} {m₀} {m} {p} {d} {m'} {i} {n} v h en ep e em =
     let a : n ≡ min (length (drop i m)) 32 = all m i n h en in
     go-on d v h en (sealed-state s (drop i m) n a ep (e .0)) (sealed-bytes s (drop i m) n a ep (e .1)) em
 
-pub uncover-on : {s₀ s s' : State} {m₀ m p d m' : List ℕ} {i : ℕ} → Going opening s₀ m₀ s m i → 32 ≤ length m - i
-    → p ≡ padded 32 (take 32 (drop i m)) → (s' ≡ opening s p) × (d ≡ xorBytes p (stream s)) → m' ≡ paste m i d 32 → Going opening s₀ m₀ s' m' (i + 32)
-uncover-on {s₀} {s} {s'} {m₀} {m} {p} {d} {m'} {i} v h ep e em =
-    let l : 32 ≤ length (drop i m) = rw length-drop h in
-    go-on d v (omega arith) (omega arith) (opened-state s (drop i m) l ep (e .0)) (sealed-bytes s (drop i m) 32 (omega arith) ep (e .1)) em
+pub uncover-on : {s₀ s s' : State} {m₀ m m' : List ℕ} {i : ℕ} → Going opening s₀ m₀ s m i → 32 ≤ length m - i
+    → (s' ≡ opening s (drop i m)) × (m' ≡ paste m i (xorBytes (drop i m) (stream s)) 32) → Going opening s₀ m₀ s' m' (i + 32)
+uncover-on {s₀} {s} {s'} {m₀} {m} {m'} {i} v h e =
+    let d : List ℕ = xorBytes (drop i m) (stream s) in
+    go-on d v (omega arith) (omega arith) (e .0) (take-all 32 d (rw (length-xor, length-stream) (omega arith))) (e .1)
 
 pub uncover-end : {s₀ s s' : State} {m₀ m b d m' : List ℕ} {i n : ℕ} → Going opening s₀ m₀ s m i → n ≡ length m - i → 0 < n → n < 32
     → b ≡ drop i m → (s' ≡ opening s b) × (d ≡ padded 32 (xorBytes b (stream s))) → m' ≡ paste m i d n → Going opening s₀ m₀ s' m' (i + n)

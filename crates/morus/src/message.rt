@@ -34,16 +34,17 @@ impl State {
         let mut i: usize = 0;
         while 32 <= mc.len() - i {
             let src = block(mc, i, 32);
-            store(mc, i, st.masked(src), 32);
+            let sealed = st.masked(src);
             let p = Lane::from_bytes(&src);
             st = st.first(p).last(p);
+            store(mc, i, sealed, 32);
             i += 32;
         }
         if i < mc.len() {
             let n = mc.len() - i;
-            let mut sealed = [0u8; 32];
-            let end = st.enc(&mut sealed, block(mc, i, n));
-            store(mc, i, sealed, n);
+            let mut part = [0u8; 32];
+            let end = st.enc(&mut part, block(mc, i, n));
+            store(mc, i, part, n);
             return end;
         }
         st
@@ -54,17 +55,16 @@ impl State {
         ensures { λ r. ⌜ (r ≡ reabsorbed self (now (mc .entry))) × (now (mc .exit) ≡ uncovered self (now (mc .entry))) ⌝ }
     {
         let mut st = self;
-        let mut opened = [0u8; 32];
         let mut i: usize = 0;
         while 32 <= mc.len() - i {
-            st = st.dec(&mut opened, block(mc, i, 32));
-            store(mc, i, opened, 32);
+            st = st.dec(mc, i);
             i += 32;
         }
         if i < mc.len() {
             let n = mc.len() - i;
-            let end = st.dec_partial(&mut opened, &mc[i..]);
-            store(mc, i, opened, n);
+            let mut part = [0u8; 32];
+            let end = st.dec_partial(&mut part, &mc[i..]);
+            store(mc, i, part, n);
             return end;
         }
         st

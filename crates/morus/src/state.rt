@@ -1,10 +1,12 @@
 // The state: five lanes, and the steps that take it on.
 use crate::bytes::block;
 use crate::bytes::copy;
+use crate::bytes::store;
 use crate::lane::Lane;
 ghost use mathlib.Core.Path.{_≡_};
-ghost use Prim.Native.Nat.{_≤_, _<_, _^_};
-ghost use lib.ListN.{length};
+ghost use Prim.Native.Nat.{_+_, _≤_, _<_, _^_};
+ghost use lib.ListN.{length, drop};
+ghost use lib.Seq.{paste};
 ghost use Rattle.morus.specs.Bytes.{padded, xorBytes};
 ghost use Rattle.morus.specs.Update.{S0, S1, S2, S3, S4, firstSteps, lastSteps, update};
 ghost use Rattle.morus.specs.Start.{startWith, start};
@@ -137,13 +139,15 @@ impl State {
         self.first(p).last(p)
     }
 
-    // A block of ciphertext: its plaintext into `dst`, and the state after it.
-    pub(crate) fn dec(self, dst: &mut [u8; 32], src: [u8; 32]) -> State
-        ensures { λ r. ⌜ (r ≡ opening self src) × (now (dst .exit) ≡ xorBytes src (stream self)) ⌝ }
+    // A whole block of ciphertext, at byte `i` of `mc`: its plaintext in its place, and the state after it.
+    pub(crate) fn dec(self, mc: &mut [u8], i: usize) -> State
+        requires { ⌜ i + 32 ≤ length (now mc) ⌝ }
+        ensures { λ r. ⌜ (r ≡ opening self (drop i (now (mc .entry)))) × (now (mc .exit) ≡ paste (now (mc .entry)) i (xorBytes (drop i (now (mc .entry))) (stream self)) 32) ⌝ }
     {
-        let m = self.masked(src);
-        *dst = m;
-        let p = Lane::from_bytes(&m);
+        let src = block(mc, i, 32);
+        let opened = self.masked(src);
+        store(mc, i, opened, 32);
+        let p = Lane::from_bytes(&opened);
         self.first(p).last(p)
     }
 

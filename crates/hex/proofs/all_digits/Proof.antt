@@ -1,36 +1,34 @@
--- `hex::all_digits` meets its contract. The invariant: the text is all digits exactly if what is left of it is.
+-- `hex::all_digits` meets its contract. The invariant: the text is all digits exactly if all were so far and what is left is.
 -- Assumes nothing.
 use Prim.Native.Nat.{_-_, _≤_}
-use mathlib.Core.Path.{_≡_, sym, _∙_}
-use borrow.Author.Tests.{not-true, not-false}
+use mathlib.Core.Path.{_≡_, refl}
+use mathlib.Core.Bool.{_&&_}
 use native.Mathlib.Omega.{arith}
 use lib.ListN.{length, drop}
 use Rattle.hex.specs.Hex.{allDigits}
-use Rattle.hex.proofs.Index.{digits-stop, digits-go, digits-end}
+use Rattle.hex.proofs.Index.{digits-go, digits-end}
 use borrow.Author.Needs.{needs}
 use Rattle.hex.proofs.all_digits.Statement.{statement}
 use Rattle.hex.proofs.all_digits.Tie as tie
 
 abbrev Inv-loop : tie.InvT-loop
-Inv-loop text i₀ i = (i ≤ length text) × (allDigits (drop i text) ≡ allDigits text)
+Inv-loop text all₀ i₀ all i = (i ≤ length text) × (all && allDigits (drop i text) ≡ allDigits text)
 
 abbrev μ-loop : tie.MeasureT-loop
-μ-loop text i₀ i = length text - i
+μ-loop text all₀ i₀ all i = length text - i
 
-returns : tie.Need-returns Inv-loop μ-loop
-returns c =
-    let here = c .before .before .before .before .loop in
-    digits-stop _ (here .i) (here .inv .1) (omega arith) (sym (c .before .is-digit .ensures) ∙ not-true _ (c .if1 .taken))
+loop-holds : tie.Need-loop-holds Inv-loop μ-loop
+loop-holds c =
+    (omega arith, refl)
 
 loop-again : tie.Need-loop-again Inv-loop μ-loop
 loop-again c =
-    let here = c .before .before .before .before .loop in
-    (search needs, digits-go _ (here .i) (here .inv .1) (omega arith) (sym (c .before .is-digit .ensures) ∙ not-false _ (c .if1 .left)))
+    let here = c .before .before .before .loop in
+    (search needs, rw (c .is-digit .ensures) (digits-go _ (here .i) (here .all) (here .inv .1) (omega arith)))
 
-returns-2 : tie.Need-returns-2 Inv-loop μ-loop
-returns-2 c =
-    let here = c .before .loop in
-    digits-end _ (here .i) (here .inv .1) (omega arith)
+returns : tie.Need-returns Inv-loop μ-loop
+returns c =
+    digits-end _ (c .before .loop .i) (c .before .loop .all) (c .before .loop .inv .1) (omega arith)
 
 pub all-digits-spec : {M : Type 1} → statement M
 all-digits-spec =
@@ -38,11 +36,10 @@ all-digits-spec =
     (tie.spec
     Inv-loop
     μ-loop
-    (λ c. search needs)
+    loop-holds
     (λ c. search needs)
     (λ c κs. search needs)
-    returns
     (λ c. search needs)
     (λ c. search needs)
     loop-again
-    returns-2)
+    returns)

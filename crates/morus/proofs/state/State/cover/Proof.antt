@@ -23,10 +23,11 @@ loop-holds c =
 loop-again : tie.Need-loop-again Inv-loop μ-loop
 unfolding sealing update
 loop-again c =
-    let f : tie.After-from-bytes Inv-loop μ-loop = c .before .before in
-    let w : tie.After-store Inv-loop μ-loop = f .before .before .before .before in
-    let b : tie.After-block Inv-loop μ-loop = w .before .before .before in
-    cover-on (b .before .before .before .loop .inv) (omega arith) (omega arith) (b .block .ensures) (rw (c .last .ensures, c .before .first .ensures, f .from-bytes .ensures), w .before .masked .ensures) (w .store .ensures)
+    let w : tie.After-store Inv-loop μ-loop = c .before .before in
+    let u : tie.After-last Inv-loop μ-loop = w .before .before in
+    let f : tie.After-from-bytes Inv-loop μ-loop = u .before .before in
+    let b : tie.After-block Inv-loop μ-loop = f .before .before .before in
+    cover-on (b .before .before .before .loop .inv) (omega arith) (omega arith) (b .block .ensures) (rw (u .last .ensures, u .before .first .ensures, f .from-bytes .ensures), f .before .before .masked .ensures) (w .store .ensures)
 
 returns : tie.Need-returns Inv-loop μ-loop
 returns c =

@@ -11,10 +11,10 @@ use Rattle.morus.proofs.state.State.uncover.Statement.{statement}
 use Rattle.morus.proofs.state.State.uncover.Tie as tie
 
 abbrev Inv-loop : tie.InvT-loop
-Inv-loop mc₀ st₀ dst₀ i₀ mc st dst i = Going opening st₀ mc₀ st mc i
+Inv-loop mc₀ st₀ i₀ mc st i = Going opening st₀ mc₀ st mc i
 
 abbrev μ-loop : tie.MeasureT-loop
-μ-loop mc₀ st₀ dst₀ i₀ mc st dst i = length mc - i
+μ-loop mc₀ st₀ i₀ mc st i = length mc - i
 
 loop-holds : tie.Need-loop-holds Inv-loop μ-loop
 loop-holds c =
@@ -22,9 +22,9 @@ loop-holds c =
 
 loop-again : tie.Need-loop-again Inv-loop μ-loop
 loop-again c =
-    let e : tie.After-dec Inv-loop μ-loop = c .before .before .before .before in
-    let l : tie.In-loop Inv-loop μ-loop = e .before .before .before .before in
-    uncover-on (l .before .loop .inv) (l .loop-test .taken) (e .before .block .ensures) (e .dec .ensures) (c .before .before .store .ensures)
+    let d : tie.After-dec Inv-loop μ-loop = c .before .before in
+    let l : tie.In-loop Inv-loop μ-loop = d .before .before in
+    uncover-on (l .before .loop .inv) (l .loop-test .taken) (d .dec .ensures)
 
 returns : tie.Need-returns Inv-loop μ-loop
 returns c =
@@ -32,7 +32,8 @@ returns c =
     let t : tie.Then1 Inv-loop μ-loop = e .before .before .before .before in
     let l : tie.At-loop Inv-loop μ-loop = t .before .before in
     gone
-    (uncover-end {n = length (l .loop .mc) - l .loop .i} (l .loop .inv) refl (omega arith) (omega arith) (take-all (length (l .loop .mc) - l .loop .i) (drop (l .loop .i) (l .loop .mc)) (rw length-drop (omega arith))) (e .dec-partial .ensures) (c .before .before .store2 .ensures))
+    (uncover-end {n = length (l .loop .mc) - l .loop .i} (l .loop .inv) refl (omega arith) (omega arith)
+    (take-all (length (l .loop .mc) - l .loop .i) (drop (l .loop .i) (l .loop .mc)) (rw length-drop (omega arith))) (e .dec-partial .ensures) (c .before .before .store .ensures))
     (omega arith)
 
 returns-2 : tie.Need-returns-2 Inv-loop μ-loop
@@ -47,8 +48,6 @@ uncover-spec =
     μ-loop
     loop-holds
     (λ c. search needs)
-    (λ c κs. search needs)
-    (λ c κs. search needs)
     (λ c κs. search needs)
     (λ c. search needs)
     (λ c. search needs)
