@@ -1,0 +1,17 @@
+pub mod Put
+pub mod Decimal
+pub mod Hex
+pub mod KeyLine
+pub mod Shown
+pub mod Small
+pub mod Lengths
+pub mod Steps
+pub mod Gathered
+pub mod Shows
+pub mod Turn
+pub mod Parts
+pub mod Joined
+pub mod Progress
+pub mod Enough
+pub mod Determined
+pub mod Messages

@@ -1,0 +1,47 @@
+-- The answers from a place on: the one there, then those from the next place on, unless it is the end.
+use Prim.Native.Nat.{ℕ, suc, _+_, _≤_, _<_}
+use mathlib.Core.Path.{_≡_, refl, ap, _∙_}
+use mathlib.Core.Logic.{_⊎_, inl, inr}
+use mathlib.Core.Bool.{false, cond}
+use mathlib.Core.List.{List, [], _∷_, map}
+use native.Mathlib.Omega.{arith}
+use native.Mathlib.Nat.{eq-or-lt-of-le}
+use lib.ListN.{length}
+use lib.Dec.{eqb}
+use borrow.Author.Tests.{le-leb, ne-eqb, eqb-false}
+use Rattle.journal.specs.Reader.{Reading, refused, readAt}
+use Rattle.journal.specs.Run.{entry, runFrom}
+use Rattle.journal.proofs.Places.{at-end}
+use Rattle.journal.proofs.Progress.{moves, fuel}
+use Rattle.listing.specs.Listing.{frameSize}
+use Rattle.listing.specs.Pieces.{Part, part, answersFrom}
+
+module _ (key j : List ℕ) where
+  pub inside : (p : ℕ) → p ≤ length j → answersFrom key j p ≡ map part (runFrom key j frameSize (suc (length j)) p)
+  unfolding answersFrom
+  inside p h = rw (le-leb p (length j) h)
+
+  pub record Step (p : ℕ) : Type 0 where
+    pub splits : answersFrom key j p ≡ part (entry p (readAt key j p frameSize)) ∷ cond (eqb (readAt key j p frameSize .answer .number) 14) [] (answersFrom key j (readAt key j p frameSize .answer .next))
+    pub onward : eqb (readAt key j p frameSize .answer .number) 14 ≡ false → (p < readAt key j p frameSize .answer .next) × (readAt key j p frameSize .answer .next ≤ length j)
+
+  pub step : (p : ℕ) → p ≤ length j → Step p
+  unfolding runFrom refused
+  step p h = go (eq-or-lt-of-le h)
+    where
+      go : (p ≡ length j) ⊎ (p < length j) → Step p
+      go (inl e) =
+          let z = at-end key j p frameSize (omega arith) e in
+          record {
+            splits = inside p h ∙ simp z;
+            onward = λ f. absurd (eqb-false (readAt key j p frameSize .answer .number) 14 f (ap (λ (x : Reading). x .answer .number) z));
+          }
+      go (inr l) =
+          let m = moves key frameSize (omega arith) j p l in
+          let x = readAt key j p frameSize in
+          record {
+            splits =
+                inside p h
+                ∙ rw (ne-eqb (x .answer .number) 14 (m .not-end), inside (x .answer .next) (m .within), fuel key frameSize (omega arith) j (length j) (suc (length j)) (x .answer .next) (m .within) (omega (arith, m)) (omega (arith, m)));
+            onward = λ f. (m .ahead, m .within);
+          }

@@ -1,0 +1,16 @@
+-- The words of the theorem about pieces.
+use Prim.Native.Nat.{ℕ}
+use mathlib.Core.Path.{_≡_}
+use mathlib.Core.Bool.{true, false}
+use mathlib.Core.List.{List, _++_}
+use lib.ListN.{take}
+use Rattle.listing.specs.Promise.{PieceFilled}
+use Rattle.listing.specs.declared.report.Piece.{Piece}
+
+-- Calls from a place on, each but the first from where the one before it ended, up to the one that says end; and all that they
+-- gave, joined. Each call may have a buffer of its own.
+pub data Written (input : List ℕ) : ℕ → List ℕ → Type 0 where
+  last : {place : ℕ} {out out' : List ℕ} {r : Piece} → PieceFilled input place out r out' → r .end ≡ true
+      → Written input place (take (r .length) out')
+  more : {place : ℕ} {out out' text : List ℕ} {r : Piece} → PieceFilled input place out r out' → r .end ≡ false
+      → Written input (r .next) text → Written input place (take (r .length) out' ++ text)

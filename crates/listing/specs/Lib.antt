@@ -1,0 +1,8 @@
+pub mod Decimal
+pub mod Text
+pub mod KeyLine
+pub mod Listing
+pub mod Pieces
+pub mod Put
+pub mod Promise
+pub mod Claims

@@ -1,0 +1,35 @@
+-- The whole output for the whole input: the text of each answer of the journal's run, up to the end answer, or a refusal.
+use Prim.Native.Nat.{ℕ}
+use mathlib.Core.Bool.{cond}
+use mathlib.Core.List.{List, [], _∷_, _++_}
+use lib.ListN.{length}
+use lib.Dec.{leb}
+use Rattle.journal.specs.Line.{newline}
+use Rattle.journal.specs.Run.{Entry, run}
+use Rattle.listing.specs.Text.{answerText}
+use Rattle.listing.specs.KeyLine.{goodKey, keyOf, journalOf}
+
+-- `bad key` and a newline
+abbrev pub badKey : List ℕ
+badKey = 98 ∷ 97 ∷ 100 ∷ 32 ∷ 107 ∷ 101 ∷ 121 ∷ newline ∷ []
+
+-- `too big` and a newline
+abbrev pub tooBig : List ℕ
+tooBig = 116 ∷ 111 ∷ 111 ∷ 32 ∷ 98 ∷ 105 ∷ 103 ∷ newline ∷ []
+
+abbrev pub mostJournal : ℕ
+mostJournal = 60000
+
+-- the bytes of the frame buffer: those of the longest frame
+abbrev pub frameSize : ℕ
+frameSize = 353
+
+unfoldable pub answers : List Entry → List ℕ
+answers [] = []
+answers (e ∷ es) = answerText e ++ answers es
+
+unfoldable pub listing : (input : List ℕ) → List ℕ
+listing input =
+    cond (goodKey input)
+    (cond (leb (length (journalOf input)) mostJournal) (answers (run (keyOf input) (journalOf input) frameSize)) tooBig)
+    badKey

@@ -1,0 +1,28 @@
+// The key line at the front of the input.
+use hex::Read;
+use morus::Key;
+ghost use mathlib.Core.Path.{_≡_};
+ghost use Rattle.listing.specs.KeyLine.{keyLine};
+
+pub(crate) struct KeyLine {
+    pub good: bool,
+    pub key: Key,
+}
+
+pub(crate) fn key_line(input: &[u8]) -> KeyLine
+    ensures { λ r. ⌜ r ≡ keyLine (now (input .entry)) ⌝ }
+{
+    let mut key = [0u8; 16];
+    if input.len() < 33 {
+        return KeyLine { good: false, key };
+    }
+    if input[32] != b'\n' {
+        return KeyLine { good: false, key };
+    }
+    match hex::read(&input[..32], &mut key) {
+        Read::Bytes(_) => KeyLine { good: true, key },
+        Read::NotDigit => KeyLine { good: false, key },
+        Read::Odd => KeyLine { good: false, key },
+        Read::NoRoom => KeyLine { good: false, key },
+    }
+}
