@@ -1,0 +1,125 @@
+//! The line journal over the Rust crate: a straightforward writer and reader that do the same work as the crate `journal`.
+use morus::Morus;
+
+const DIGITS: &[u8; 16] = b"0123456789abcdef";
+
+pub struct Line {
+    pub number: u8,
+    pub length: usize,
+}
+
+pub struct Answer {
+    pub number: u8,
+    pub next: usize,
+    pub n: usize,
+    pub m: usize,
+}
+
+pub fn write_line(key: &[u8; 16], nonce: &[u8; 16], data: &[u8], message: &[u8], line: &mut [u8]) -> Line {
+    let (n, m) = (data.len(), message.len());
+    let refused = |number| Line { number, length: 0 };
+    if n > 64 {
+        return refused(8);
+    }
+    if m > 256 {
+        return refused(10);
+    }
+    let count = 33 + n + m;
+    if line.len() < 2 * count + 1 {
+        return refused(15);
+    }
+    let mut frame = [0u8; 353];
+    let (start, end) = (17 + n, 17 + n + m);
+    frame[..16].copy_from_slice(nonce);
+    frame[16] = n as u8;
+    frame[17..start].copy_from_slice(data);
+    frame[start..end].copy_from_slice(message);
+    let tag = Morus::new(nonce, key).encrypt_in_place(&mut frame[start..end], data);
+    frame[end..count].copy_from_slice(&tag);
+    for (digits, byte) in line.chunks_exact_mut(2).zip(&frame[..count]) {
+        digits[0] = DIGITS[(byte >> 4) as usize];
+        digits[1] = DIGITS[(byte & 15) as usize];
+    }
+    line[2 * count] = b'\n';
+    Line { number: 0, length: 2 * count + 1 }
+}
+
+fn digit(byte: u8) -> Option<u8> {
+    match byte {
+        b'0'..=b'9' => Some(byte - b'0'),
+        b'a'..=b'f' => Some(byte - b'a' + 10),
+        _ => None,
+    }
+}
+
+/// The frame's bytes at the front of the buffer, and how many; or the number of what is wrong with the digits.
+fn decode(text: &[u8], frame: &mut [u8]) -> Result<usize, u8> {
+    if text.len() > 706 {
+        return Err(4);
+    }
+    for (byte, digits) in frame.iter_mut().zip(text.chunks_exact(2)) {
+        *byte = digit(digits[0]).ok_or(5)? << 4 | digit(digits[1]).ok_or(5)?;
+    }
+    if let [last] = text.chunks_exact(2).remainder() {
+        return Err(if digit(*last).is_some() { 6 } else { 5 });
+    }
+    Ok(text.len() / 2)
+}
+
+/// Opens the frame of `count` bytes at the buffer's front where it stands: n and m, or the number of what is wrong.
+fn open(count: usize, key: &[u8; 16], frame: &mut [u8]) -> Result<(usize, usize), u8> {
+    if count < 33 {
+        return Err(7);
+    }
+    let n = frame[16] as usize;
+    if n > 64 {
+        return Err(8);
+    }
+    if 33 + n > count {
+        return Err(9);
+    }
+    let m = count - 33 - n;
+    if m > 256 {
+        return Err(10);
+    }
+    let (head, rest) = frame.split_at_mut(17 + n);
+    let (text, rest) = rest.split_at_mut(m);
+    let nonce: [u8; 16] = head[..16].try_into().unwrap();
+    let tag: [u8; 16] = rest[..16].try_into().unwrap();
+    Morus::new(&nonce, key).decrypt_in_place(text, &tag, &head[17..]).map_err(|_| 1)?;
+    Ok((n, m))
+}
+
+/// The line's answer: its next place with the frame's sizes, or with the number of what is wrong.
+fn read(journal: &[u8], place: usize, key: &[u8; 16], frame: &mut [u8]) -> (usize, Result<(usize, usize, usize), u8>) {
+    if frame.len() < 353 {
+        return (place, Err(13));
+    }
+    if place > journal.len() {
+        return (place, Err(12));
+    }
+    if place == journal.len() {
+        return (place, Err(14));
+    }
+    match journal[place..].iter().position(|&byte| byte == b'\n') {
+        None => (journal.len(), Err(11)),
+        Some(length) => {
+            let end = place + length;
+            let opened = decode(&journal[place..end], frame).and_then(|count| open(count, key, frame).map(|(n, m)| (count, n, m)));
+            (end + 1, opened)
+        }
+    }
+}
+
+pub fn read_line(journal: &[u8], place: usize, key: &[u8; 16], frame: &mut [u8]) -> Answer {
+    match read(journal, place, key, frame) {
+        (next, Ok((count, n, m))) => {
+            frame[count..].fill(0xaa);
+            Answer { number: 0, next, n, m }
+        }
+        (next, Err(number)) => {
+            frame.fill(0xaa);
+            Answer { number, next, n: 0, m: 0 }
+        }
+    }
+}

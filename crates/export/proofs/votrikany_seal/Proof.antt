@@ -1,0 +1,21 @@
+-- What the call promises of the state that `new` gave is what is promised of the key and the nonce.
+use borrow.Author.Needs.{needs}
+use Rattle.export.proofs.votrikany_seal.Statement.{statement}
+use Rattle.export.proofs.votrikany_seal.Tie as tie
+
+new-requires : tie.Need-new-requires
+new-requires c κs = search needs
+
+encrypt-requires : tie.Need-encrypt-requires
+encrypt-requires c κs = search needs
+
+same-length : tie.Need-same-length
+same-length c = search needs
+
+returns : tie.Need-returns
+returns c =
+    let d : tie.After-encrypt = c .before .before .before in
+    rw (d .before .before .new .ensures) at (d .encrypt .ensures)
+
+pub votrikany-seal-spec : {M : Type 1} → statement M
+votrikany-seal-spec = tie.close (tie.spec new-requires encrypt-requires same-length returns)

@@ -1,0 +1,32 @@
+-- What the functions for C and Rust promise: what the cipher and the journal promise, with the parts of the answer
+-- where a caller finds them. A dash marks what a buffer or a number holds at exit.
+use Prim.Native.Nat.{ℕ}
+use mathlib.Core.List.{List}
+use Rattle.morus.specs.Morus.{begun, Encrypted, Decrypted, EncryptedInto, DecryptedInto}
+use Rattle.journal.specs.Promise.{LineWritten, LineRead}
+
+-- sealing: the number is the result, the ciphertext stands in the buffer and the tag behind its pointer
+abbrev pub SealedInPlace : (key nonce ad text : List ℕ) → (number : ℕ) → (text' tag' : List ℕ) → Type 0
+SealedInPlace key nonce ad text number text' tag' =
+    Encrypted (begun nonce key) ad text (record { number = number; tag = tag' }) text'
+
+abbrev pub SealedInto : (key nonce ad message out : List ℕ) → (number : ℕ) → (out' tag' : List ℕ) → Type 0
+SealedInto key nonce ad message out number out' tag' =
+    EncryptedInto (begun nonce key) ad message out (record { number = number; tag = tag' }) out'
+
+-- opening: the number is the result, and the message stands in the buffer
+abbrev pub OpenedInPlace : (key nonce ad text tag : List ℕ) → (number : ℕ) → (text' : List ℕ) → Type 0
+OpenedInPlace key nonce ad text tag number text' = Decrypted (begun nonce key) ad text tag number text'
+
+abbrev pub OpenedInto : (key nonce ad cipher tag out : List ℕ) → (number : ℕ) → (out' : List ℕ) → Type 0
+OpenedInto key nonce ad cipher tag out number out' = DecryptedInto (begun nonce key) ad cipher tag out number out'
+
+-- a line written: the number is the result, its length stands behind its pointer
+abbrev pub Wrote : (key nonce ad message line : List ℕ) → (number : ℕ) → (line' : List ℕ) → (size' : ℕ) → Type 0
+Wrote key nonce ad message line number line' size' =
+    LineWritten key nonce ad message line (record { number = number; length = size' }) line'
+
+-- a line read: the number is the result, the next place, n and m stand behind their pointers
+abbrev pub Read : (journal : List ℕ) → (place : ℕ) → (key frame : List ℕ) → (number : ℕ) → (frame' : List ℕ) → (next' n' m' : ℕ) → Type 0
+Read journal place key frame number frame' next' n' m' =
+    LineRead journal place key frame (record { number = number; next = next'; n = n'; m = m' }) frame'

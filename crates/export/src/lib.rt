@@ -1,0 +1,114 @@
+// The functions for C and Rust: numbers, byte slices and sixteen bytes behind a pointer go in. The answer's number is the
+// result, and whatever else is handed out goes through `&mut`. Each is a few lines over the proved function.
+use journal::read_line;
+use journal::write_line;
+use morus::Morus;
+ghost use Rattle.export.specs.Promise.{SealedInPlace, OpenedInPlace, SealedInto, OpenedInto, Wrote, Read};
+
+#[no_mangle]
+pub extern "C" fn votrikany_seal_in_place(
+    key: &[u8; 16],
+    nonce: &[u8; 16],
+    ad: &[u8],
+    text: &mut [u8],
+    tag: &mut [u8; 16],
+) -> u8
+    ensures { λ r. ⌜ SealedInPlace (now (key .entry)) (now (nonce .entry)) (now (ad .entry)) (now (text .entry)) r (now (text .exit)) (now (tag .exit)) ⌝ }
+{
+    let k = *key;
+    let n = *nonce;
+    let sealed = Morus::new(n, k).encrypt_in_place(text, ad);
+    let t = sealed.tag;
+    *tag = t;
+    sealed.number
+}
+
+#[no_mangle]
+pub extern "C" fn votrikany_open_in_place(
+    key: &[u8; 16],
+    nonce: &[u8; 16],
+    ad: &[u8],
+    text: &mut [u8],
+    tag: &[u8; 16],
+) -> u8
+    ensures { λ r. ⌜ OpenedInPlace (now (key .entry)) (now (nonce .entry)) (now (ad .entry)) (now (text .entry)) (now (tag .entry)) r (now (text .exit)) ⌝ }
+{
+    let k = *key;
+    let n = *nonce;
+    let t = *tag;
+    Morus::new(n, k).decrypt_in_place(text, t, ad)
+}
+
+#[no_mangle]
+pub extern "C" fn votrikany_seal(
+    key: &[u8; 16],
+    nonce: &[u8; 16],
+    ad: &[u8],
+    message: &[u8],
+    out: &mut [u8],
+    tag: &mut [u8; 16],
+) -> u8
+    ensures { λ r. ⌜ SealedInto (now (key .entry)) (now (nonce .entry)) (now (ad .entry)) (now (message .entry)) (now (out .entry)) r (now (out .exit)) (now (tag .exit)) ⌝ }
+{
+    let k = *key;
+    let n = *nonce;
+    let sealed = Morus::new(n, k).encrypt(message, ad, out);
+    let t = sealed.tag;
+    *tag = t;
+    sealed.number
+}
+
+#[no_mangle]
+pub extern "C" fn votrikany_open(
+    key: &[u8; 16],
+    nonce: &[u8; 16],
+    ad: &[u8],
+    cipher: &[u8],
+    tag: &[u8; 16],
+    out: &mut [u8],
+) -> u8
+    ensures { λ r. ⌜ OpenedInto (now (key .entry)) (now (nonce .entry)) (now (ad .entry)) (now (cipher .entry)) (now (tag .entry)) (now (out .entry)) r (now (out .exit)) ⌝ }
+{
+    let k = *key;
+    let n = *nonce;
+    let t = *tag;
+    Morus::new(n, k).decrypt(cipher, t, ad, out)
+}
+
+#[no_mangle]
+pub extern "C" fn votrikany_write_line(
+    key: &[u8; 16],
+    nonce: &[u8; 16],
+    ad: &[u8],
+    message: &[u8],
+    line: &mut [u8],
+    size: &mut usize,
+) -> u8
+    ensures { λ r. ⌜ Wrote (now (key .entry)) (now (nonce .entry)) (now (ad .entry)) (now (message .entry)) (now (line .entry)) r (now (line .exit)) (now (size .exit)) ⌝ }
+{
+    let k = *key;
+    let n = *nonce;
+    let report = write_line(k, n, ad, message, line);
+    *size = report.length;
+    report.number
+}
+
+#[no_mangle]
+pub extern "C" fn votrikany_read_line(
+    journal: &[u8],
+    place: usize,
+    key: &[u8; 16],
+    frame: &mut [u8],
+    next: &mut usize,
+    n: &mut usize,
+    m: &mut usize,
+) -> u8
+    ensures { λ r. ⌜ Read (now (journal .entry)) place (now (key .entry)) (now (frame .entry)) r (now (frame .exit)) (now (next .exit)) (now (n .exit)) (now (m .exit)) ⌝ }
+{
+    let k = *key;
+    let answer = read_line(journal, place, k, frame);
+    *next = answer.next;
+    *n = answer.n;
+    *m = answer.m;
+    answer.number
+}

@@ -1,0 +1,124 @@
+/* Votrikany for C: sealing and opening with MORUS-1280-128, and the line journal.
+ *
+ * The functions are those of the crate `export`, proved to answer exactly what is said here. Build the library with
+ * `rt staticlib export`, which writes target/staticlib/libexport.a: x86-64 Linux code that wants nothing but `memcpy` and
+ * `memset` of the C library.
+ *
+ * Numbers given back. Each function returns one of these; what it leaves is said with the function.
+ *    0  done, opened                       8  over 64 bytes of data
+ *    1  the tag differs                    9  the frame ends before its data does
+ *    2  2^61 bytes or more                10  over 256 bytes of message
+ *    3  the second buffer's length is     11  no newline up to the journal's end
+ *       not the text's                    12  the place is beyond the journal's end
+ *    4  over 706 bytes before the newline 13  the frame buffer has under 353 bytes
+ *    5  a byte is not 0-9 or a-f          14  the place is the journal's end
+ *    6  an odd number of digits           15  the line buffer is shorter than the line
+ *    7  under 33 frame bytes
+ *
+ * What the caller owes. Nothing checks a caller that is not Rattle:
+ *  - `key`, `nonce` and `tag` point to 16 bytes each. They, and the pointers to a size_t, are never null.
+ *  - Any other pointer is to as many bytes as the length behind it says. It may be null where that length is 0, and only there.
+ *  - What is written to (each pointer without `const`) overlaps nothing else of the call. What is only read may overlap.
+ *  - No other thread writes to any of it during the call, or reads what the call writes.
+ * The functions keep no pointer, allocate nothing and hold no state between calls, so any number of threads may be in them.
+ * They always return, and need less than 4,096 bytes of stack.
+ *
+ * A nonce must not be used twice with one key: no function can see that, and none checks it.
+ */
+#ifndef VOTRIKANY_H
+#define VOTRIKANY_H
+
+#include <stddef.h>
+#include <stdint.h>
+
+#ifdef __cplusplus
+extern "C" {
+#endif
+
+enum {
+    VOTRIKANY_DONE = 0,
+    VOTRIKANY_TAG_DIFFERS = 1,
+    VOTRIKANY_TOO_LONG = 2,
+    VOTRIKANY_OTHER_LENGTH = 3,
+    VOTRIKANY_LINE_TOO_LONG = 4,
+    VOTRIKANY_NOT_DIGIT = 5,
+    VOTRIKANY_ODD = 6,
+    VOTRIKANY_FRAME_TOO_SHORT = 7,
+    VOTRIKANY_DATA_TOO_LONG = 8,
+    VOTRIKANY_DATA_PAST_FRAME = 9,
+    VOTRIKANY_MESSAGE_TOO_LONG = 10,
+    VOTRIKANY_NO_NEWLINE = 11,
+    VOTRIKANY_PLACE_BEYOND = 12,
+    VOTRIKANY_BUFFER_TOO_SMALL = 13,
+    VOTRIKANY_END = 14,
+    VOTRIKANY_LINE_TOO_SMALL = 15
+};
+
+/* A frame is nonce (16), data count n (1), data (n), message or ciphertext (m), tag (16); a line is a frame in lowercase
+ * hexadecimal and a newline. */
+enum {
+    VOTRIKANY_MOST_DATA = 64,
+    VOTRIKANY_MOST_MESSAGE = 256,
+    VOTRIKANY_FRAME_SIZE = 353,  /* the least that a frame buffer has */
+    VOTRIKANY_LONGEST_LINE = 707,
+    VOTRIKANY_DATA_AT = 17       /* where the data stands in an opened frame; the message stands at 17 + n */
+};
+
+/* Seals `text_length` bytes of message at `text` where they stand, bound to the data `ad`, and puts the tag at `tag`.
+ *   0  `text` holds the ciphertext, `tag` the tag.
+ *   2  `ad_length` or `text_length` is 2^61 or more: `text` is untouched, `tag` is sixteen zero bytes.
+ */
+uint8_t votrikany_seal_in_place(const uint8_t *key, const uint8_t *nonce, const uint8_t *ad, size_t ad_length,
+                                uint8_t *text, size_t text_length, uint8_t *tag);
+
+/* Opens `text_length` bytes of ciphertext at `text` where they stand.
+ *   0  `text` holds the message.
+ *   2  `ad_length` or `text_length` is 2^61 or more: every byte of `text` is 0xaa.
+ *   1  the tag differs: every byte of `text` is 0xaa.
+ */
+uint8_t votrikany_open_in_place(const uint8_t *key, const uint8_t *nonce, const uint8_t *ad, size_t ad_length,
+                                uint8_t *text, size_t text_length, const uint8_t *tag);
+
+/* Seals `message_length` bytes at `message` into `out`, and puts the tag at `tag`.
+ *   0  `out` holds the ciphertext, `tag` the tag.
+ *   2  `ad_length` or `message_length` is 2^61 or more: `out` is untouched, `tag` is sixteen zero bytes.
+ *   3  `out_length` is not `message_length`: as 2.
+ */
+uint8_t votrikany_seal(const uint8_t *key, const uint8_t *nonce, const uint8_t *ad, size_t ad_length,
+                       const uint8_t *message, size_t message_length, uint8_t *out, size_t out_length, uint8_t *tag);
+
+/* Opens `cipher_length` bytes at `cipher` into `out`.
+ *   0  `out` holds the message.
+ *   2  `ad_length` or `cipher_length` is 2^61 or more: every byte of `out` is 0xaa.
+ *   3  `out_length` is not `cipher_length`: every byte of `out` is 0xaa.
+ *   1  the tag differs: every byte of `out` is 0xaa.
+ */
+uint8_t votrikany_open(const uint8_t *key, const uint8_t *nonce, const uint8_t *ad, size_t ad_length,
+                       const uint8_t *cipher, size_t cipher_length, const uint8_t *tag, uint8_t *out, size_t out_length);
+
+/* Seals data and a message into one line of the journal at the front of `line`, and puts the line's length at `size`.
+ *   0  `line` begins with the line, newline included; the bytes behind it are as they were.
+ *      `*size` is 2 * (33 + ad_length + message_length) + 1.
+ *   8  `ad_length` is over 64; 10 `message_length` is over 256; 15 `line_length` is less than the line needs (in this order):
+ *      `line` is untouched, `*size` is 0.
+ */
+uint8_t votrikany_write_line(const uint8_t *key, const uint8_t *nonce, const uint8_t *ad, size_t ad_length,
+                             const uint8_t *message, size_t message_length, uint8_t *line, size_t line_length, size_t *size);
+
+/* Reads the line that starts at `place` in the journal, and opens its frame into `frame`.
+ *   0  `frame` begins with the frame: nonce at 0, the count n at 16, data at 17, the message at 17 + n, the tag behind it.
+ *      Every byte behind the frame is 0xaa. `*n` and `*m` are the lengths of data and message.
+ *      `*next` is one past the line's newline.
+ *   Any other number: every byte of `frame` is 0xaa, `*n` and `*m` are 0. `*next` is one past the line's newline for 1 and
+ *   4 to 10, the journal's length for 11, and `place` for 12, 13 and 14.
+ *   They are looked for in the order 13, 12, 14, 11, 4, 5, 6, 7, 8, 9, 10, 1.
+ * From place 0, with `*next` for the next place, a journal of L bytes answers 14 by call L + 1.
+ */
+uint8_t votrikany_read_line(const uint8_t *journal, size_t journal_length, size_t place, const uint8_t *key,
+                            uint8_t *frame, size_t frame_length, size_t *next, size_t *n, size_t *m);
+
+#ifdef __cplusplus
+}
+#endif
+
+#endif

@@ -1,0 +1,102 @@
+"""The tools that link and run x86-64 code on this machine: used by tests/gate-library and bench/run.
+
+On x86-64 these are cc and rustc. On any other machine they are Debian's cross compiler, a rustc with a standard library
+for x86-64, and an emulator. tests/install-cross installs them by package name.
+"""
+import os
+import pathlib
+import platform
+import shutil
+import subprocess
+
+ROOT = pathlib.Path(__file__).resolve().parent.parent.parent
+TARGET = "x86_64-unknown-linux-gnu"
+NATIVE = platform.machine() == "x86_64"
+HINT = ": tests/install-cross installs it"
+
+
+class Missing(Exception):
+    """A tool or a file that is not there; its text says which."""
+
+
+def c_compiler():
+    name = "cc" if NATIVE else "x86_64-linux-gnu-gcc"
+    found = shutil.which(name)
+    if not found:
+        raise Missing(f"{name} is not installed{HINT}")
+    return found
+
+
+def rustc():
+    """The rustc that RUSTC names, or the first one that has a standard library for x86-64."""
+    names = [os.environ["RUSTC"]] if "RUSTC" in os.environ else ["rustc", "/usr/bin/rustc"]
+    for name in names:
+        found = shutil.which(name)
+        if not found:
+            continue
+        root = subprocess.run([found, "--print", "sysroot"], stdout=subprocess.PIPE, text=True).stdout.strip()
+        if list(pathlib.Path(root, "lib", "rustlib", TARGET, "lib").glob("libstd-*.rlib")):
+            return found
+    raise Missing(f"no rustc with a standard library for {TARGET} is installed{HINT}")
+
+
+def rust_source():
+    """The Rust crate's lib.rs, as it stands."""
+    source = pathlib.Path(os.environ.get("MORUS_RUST", ROOT / "../shared/docs/src/src/lib.rs"))
+    if not source.is_file():
+        raise Missing(f"the Rust source {source} is missing: set MORUS_RUST to its lib.rs")
+    return source
+
+
+def kit():
+    """The kit's toolchain folder for this machine."""
+    rt = shutil.which("rt")
+    if not rt:
+        raise Missing("rt is not on the path")
+    return pathlib.Path(rt).resolve().parent.parent / "on" / platform.machine() / "toolchain"
+
+
+def emulator():
+    """The words before a statically linked x86-64 program that run it: none on x86-64."""
+    if NATIVE:
+        return []
+    for found in (shutil.which("qemu-x86_64"), kit() / "bin" / "qemu-x86_64"):
+        if found and os.access(found, os.X_OK):
+            return [str(found)]
+    raise Missing(f"qemu-x86_64 is not installed{HINT}")
+
+
+def loader():
+    """The words before a dynamically linked x86-64 program: on another machine the emulator of Debian's qemu-user (the kit's does
+    not run a Rust program) with the kit's loader and C library."""
+    if NATIVE:
+        return []
+    found = shutil.which("qemu-x86_64")
+    if not found:
+        raise Missing(f"qemu-x86_64 (Debian's qemu-user) is not installed{HINT}")
+    lib = kit() / "lib"
+    return [found, str(lib / "ld-linux-x86-64.so.2"), "--library-path", str(lib)]
+
+
+def library():
+    """The archive of the crate `export`, proved and built anew."""
+    run = subprocess.run(["rt", "staticlib", "export"], cwd=ROOT, stdout=subprocess.PIPE, stderr=subprocess.STDOUT, text=True)
+    if run.returncode != 0:
+        raise SystemExit(run.stdout[-3000:] + "\nrt staticlib export: not built")
+    return ROOT / "target" / "staticlib" / "libexport.a"
+
+
+def rust(out, source, *words, kind="rlib", name=None):
+    """Compiles a Rust file for the x86-64 baseline."""
+    linker = [] if NATIVE else ["-C", f"linker={c_compiler()}"]
+    command = [rustc(), "--edition", "2021", "--target", TARGET, "-C", "opt-level=3", "-C", "panic=abort", "-C", "target-cpu=x86-64"]
+    command += linker + ["--crate-type", kind, "-o", out, source, *words]
+    if name:
+        command += ["--crate-name", name]
+    subprocess.run([str(word) for word in command], check=True)
+    return out
+
+
+def rust_crate(room):
+    """The Rust crate, unchanged."""
+    return rust(room / "libmorus.rlib", rust_source(), "--cap-lints", "allow", "--cfg", 'feature="std"', name="morus")
