@@ -15,7 +15,13 @@ pub struct Answer {
     pub m: usize,
 }
 
-pub fn write_line(key: &[u8; 16], nonce: &[u8; 16], data: &[u8], message: &[u8], line: &mut [u8]) -> Line {
+pub fn write_line(
+    key: &[u8; 16],
+    nonce: &[u8; 16],
+    data: &[u8],
+    message: &[u8],
+    line: &mut [u8],
+) -> Line {
     let (n, m) = (data.len(), message.len());
     let refused = |number| Line { number, length: 0 };
     if n > 64 {
@@ -41,7 +47,10 @@ pub fn write_line(key: &[u8; 16], nonce: &[u8; 16], data: &[u8], message: &[u8],
         digits[1] = DIGITS[(byte & 15) as usize];
     }
     line[2 * count] = b'\n';
-    Line { number: 0, length: 2 * count + 1 }
+    Line {
+        number: 0,
+        length: 2 * count + 1,
+    }
 }
 
 fn digit(byte: u8) -> Option<u8> {
@@ -86,12 +95,19 @@ fn open(count: usize, key: &[u8; 16], frame: &mut [u8]) -> Result<(usize, usize)
     let (text, rest) = rest.split_at_mut(m);
     let nonce: [u8; 16] = head[..16].try_into().unwrap();
     let tag: [u8; 16] = rest[..16].try_into().unwrap();
-    Morus::new(&nonce, key).decrypt_in_place(text, &tag, &head[17..]).map_err(|_| 1)?;
+    Morus::new(&nonce, key)
+        .decrypt_in_place(text, &tag, &head[17..])
+        .map_err(|_| 1)?;
     Ok((n, m))
 }
 
 /// The line's answer: its next place with the frame's sizes, or with the number of what is wrong.
-fn read(journal: &[u8], place: usize, key: &[u8; 16], frame: &mut [u8]) -> (usize, Result<(usize, usize, usize), u8>) {
+fn read(
+    journal: &[u8],
+    place: usize,
+    key: &[u8; 16],
+    frame: &mut [u8],
+) -> (usize, Result<(usize, usize, usize), u8>) {
     if frame.len() < 353 {
         return (place, Err(13));
     }
@@ -105,7 +121,8 @@ fn read(journal: &[u8], place: usize, key: &[u8; 16], frame: &mut [u8]) -> (usiz
         None => (journal.len(), Err(11)),
         Some(length) => {
             let end = place + length;
-            let opened = decode(&journal[place..end], frame).and_then(|count| open(count, key, frame).map(|(n, m)| (count, n, m)));
+            let opened = decode(&journal[place..end], frame)
+                .and_then(|count| open(count, key, frame).map(|(n, m)| (count, n, m)));
             (end + 1, opened)
         }
     }
@@ -115,11 +132,21 @@ pub fn read_line(journal: &[u8], place: usize, key: &[u8; 16], frame: &mut [u8])
     match read(journal, place, key, frame) {
         (next, Ok((count, n, m))) => {
             frame[count..].fill(0xaa);
-            Answer { number: 0, next, n, m }
+            Answer {
+                number: 0,
+                next,
+                n,
+                m,
+            }
         }
         (next, Err(number)) => {
             frame.fill(0xaa);
-            Answer { number, next, n: 0, m: 0 }
+            Answer {
+                number,
+                next,
+                n: 0,
+                m: 0,
+            }
         }
     }
 }

@@ -48,7 +48,10 @@ fn listing(key: &[u8; 16], text: &[u8], out: &mut Vec<u8>) {
 
 fn main() {
     let mut input = Vec::new();
-    std::io::stdin().take(33 + MOST as u64 + 1).read_to_end(&mut input).unwrap();
+    std::io::stdin()
+        .take(33 + MOST as u64 + 1)
+        .read_to_end(&mut input)
+        .unwrap();
     let mut out = Vec::new();
     match key_of(&input) {
         None => out.extend_from_slice(b"bad key\n"),

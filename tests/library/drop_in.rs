@@ -6,7 +6,10 @@ struct Bytes(u64);
 
 impl Bytes {
     fn next(&mut self) -> u8 {
-        self.0 = self.0.wrapping_mul(6364136223846793005).wrapping_add(1442695040888963407);
+        self.0 = self
+            .0
+            .wrapping_mul(6364136223846793005)
+            .wrapping_add(1442695040888963407);
         (self.0 >> 56) as u8
     }
 
@@ -51,7 +54,15 @@ fn main() {
             let (c, tag): (Vec<u8>, Tag) = Morus::new(&nonce, &key).encrypt(&message, &ad);
             let mut buffer = message.clone();
             let again: Tag = Morus::new(&nonce, &key).encrypt_in_place(&mut buffer, &ad);
-            println!("{} {} {} {} {} {}", n, m, digits(&c), digits(&tag), digits(&buffer), digits(&again));
+            println!(
+                "{} {} {} {} {} {}",
+                n,
+                m,
+                digits(&c),
+                digits(&tag),
+                digits(&buffer),
+                digits(&again)
+            );
             opened(&nonce, &key, &c, &tag, &ad);
             let mut other = tag;
             other[bytes.next() as usize % 16] ^= 1;

@@ -28,12 +28,20 @@ pub struct Answer {
 impl Answer {
     /// The data of an opened frame; nothing where the answer is not 0.
     pub fn data<'a>(&self, frame: &'a [u8]) -> &'a [u8] {
-        if self.number == 0 { &frame[17..17 + self.n] } else { &[] }
+        if self.number == 0 {
+            &frame[17..17 + self.n]
+        } else {
+            &[]
+        }
     }
 
     /// The message of an opened frame; nothing where the answer is not 0.
     pub fn message<'a>(&self, frame: &'a [u8]) -> &'a [u8] {
-        if self.number == 0 { &frame[17 + self.n..17 + self.n + self.m] } else { &[] }
+        if self.number == 0 {
+            &frame[17 + self.n..17 + self.n + self.m]
+        } else {
+            &[]
+        }
     }
 }
 

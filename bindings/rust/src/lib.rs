@@ -12,8 +12,8 @@ compile_error!("libexport.a is x86-64 Linux code: build with --target x86_64-unk
 
 use core::fmt;
 
-mod library;
 pub mod journal;
+mod library;
 
 /// Why an opening is refused.
 #[derive(Debug, Clone, Copy, Eq, PartialEq)]
@@ -64,7 +64,10 @@ fn sealed(number: u8) {
 impl Morus {
     /// The nonce first, as in morus 0.1.5.
     pub fn new(nonce: &Nonce, key: &Key) -> Self {
-        Morus { nonce: *nonce, key: *key }
+        Morus {
+            nonce: *nonce,
+            key: *key,
+        }
     }
 
     /// The ciphertext of `m` with the data `ad`, and the tag.
@@ -72,14 +75,27 @@ impl Morus {
     pub fn encrypt(self, m: &[u8], ad: &[u8]) -> (Vec<u8>, Tag) {
         let mut c = vec![0u8; m.len()];
         let mut tag = [0u8; 16];
-        sealed(library::seal(&self.key, &self.nonce, ad, m, &mut c, &mut tag));
+        sealed(library::seal(
+            &self.key,
+            &self.nonce,
+            ad,
+            m,
+            &mut c,
+            &mut tag,
+        ));
         (c, tag)
     }
 
     /// Seals `mc` where it stands, and gives the tag.
     pub fn encrypt_in_place(self, mc: &mut [u8], ad: &[u8]) -> Tag {
         let mut tag = [0u8; 16];
-        sealed(library::seal_in_place(&self.key, &self.nonce, ad, mc, &mut tag));
+        sealed(library::seal_in_place(
+            &self.key,
+            &self.nonce,
+            ad,
+            mc,
+            &mut tag,
+        ));
         tag
     }
 

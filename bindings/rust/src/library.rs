@@ -6,38 +6,184 @@ use crate::{Key, Nonce, Tag};
 
 #[link(name = "export", kind = "static")]
 extern "C" {
-    fn votrikany_seal_in_place(key: *const u8, nonce: *const u8, ad: *const u8, ad_length: usize, text: *mut u8, text_length: usize, tag: *mut u8) -> u8;
-    fn votrikany_open_in_place(key: *const u8, nonce: *const u8, ad: *const u8, ad_length: usize, text: *mut u8, text_length: usize, tag: *const u8) -> u8;
+    fn votrikany_seal_in_place(
+        key: *const u8,
+        nonce: *const u8,
+        ad: *const u8,
+        ad_length: usize,
+        text: *mut u8,
+        text_length: usize,
+        tag: *mut u8,
+    ) -> u8;
+    fn votrikany_open_in_place(
+        key: *const u8,
+        nonce: *const u8,
+        ad: *const u8,
+        ad_length: usize,
+        text: *mut u8,
+        text_length: usize,
+        tag: *const u8,
+    ) -> u8;
     #[cfg(feature = "std")]
-    fn votrikany_seal(key: *const u8, nonce: *const u8, ad: *const u8, ad_length: usize, message: *const u8, message_length: usize, out: *mut u8, out_length: usize, tag: *mut u8) -> u8;
+    fn votrikany_seal(
+        key: *const u8,
+        nonce: *const u8,
+        ad: *const u8,
+        ad_length: usize,
+        message: *const u8,
+        message_length: usize,
+        out: *mut u8,
+        out_length: usize,
+        tag: *mut u8,
+    ) -> u8;
     #[cfg(feature = "std")]
-    fn votrikany_open(key: *const u8, nonce: *const u8, ad: *const u8, ad_length: usize, cipher: *const u8, cipher_length: usize, tag: *const u8, out: *mut u8, out_length: usize) -> u8;
-    fn votrikany_write_line(key: *const u8, nonce: *const u8, ad: *const u8, ad_length: usize, message: *const u8, message_length: usize, line: *mut u8, line_length: usize, size: *mut usize) -> u8;
-    fn votrikany_read_line(journal: *const u8, journal_length: usize, place: usize, key: *const u8, frame: *mut u8, frame_length: usize, next: *mut usize, n: *mut usize, m: *mut usize) -> u8;
+    fn votrikany_open(
+        key: *const u8,
+        nonce: *const u8,
+        ad: *const u8,
+        ad_length: usize,
+        cipher: *const u8,
+        cipher_length: usize,
+        tag: *const u8,
+        out: *mut u8,
+        out_length: usize,
+    ) -> u8;
+    fn votrikany_write_line(
+        key: *const u8,
+        nonce: *const u8,
+        ad: *const u8,
+        ad_length: usize,
+        message: *const u8,
+        message_length: usize,
+        line: *mut u8,
+        line_length: usize,
+        size: *mut usize,
+    ) -> u8;
+    fn votrikany_read_line(
+        journal: *const u8,
+        journal_length: usize,
+        place: usize,
+        key: *const u8,
+        frame: *mut u8,
+        frame_length: usize,
+        next: *mut usize,
+        n: *mut usize,
+        m: *mut usize,
+    ) -> u8;
 }
 
 pub fn seal_in_place(key: &Key, nonce: &Nonce, ad: &[u8], text: &mut [u8], tag: &mut Tag) -> u8 {
-    unsafe { votrikany_seal_in_place(key.as_ptr(), nonce.as_ptr(), ad.as_ptr(), ad.len(), text.as_mut_ptr(), text.len(), tag.as_mut_ptr()) }
+    unsafe {
+        votrikany_seal_in_place(
+            key.as_ptr(),
+            nonce.as_ptr(),
+            ad.as_ptr(),
+            ad.len(),
+            text.as_mut_ptr(),
+            text.len(),
+            tag.as_mut_ptr(),
+        )
+    }
 }
 
 pub fn open_in_place(key: &Key, nonce: &Nonce, ad: &[u8], text: &mut [u8], tag: &Tag) -> u8 {
-    unsafe { votrikany_open_in_place(key.as_ptr(), nonce.as_ptr(), ad.as_ptr(), ad.len(), text.as_mut_ptr(), text.len(), tag.as_ptr()) }
+    unsafe {
+        votrikany_open_in_place(
+            key.as_ptr(),
+            nonce.as_ptr(),
+            ad.as_ptr(),
+            ad.len(),
+            text.as_mut_ptr(),
+            text.len(),
+            tag.as_ptr(),
+        )
+    }
 }
 
 #[cfg(feature = "std")]
-pub fn seal(key: &Key, nonce: &Nonce, ad: &[u8], message: &[u8], out: &mut [u8], tag: &mut Tag) -> u8 {
-    unsafe { votrikany_seal(key.as_ptr(), nonce.as_ptr(), ad.as_ptr(), ad.len(), message.as_ptr(), message.len(), out.as_mut_ptr(), out.len(), tag.as_mut_ptr()) }
+pub fn seal(
+    key: &Key,
+    nonce: &Nonce,
+    ad: &[u8],
+    message: &[u8],
+    out: &mut [u8],
+    tag: &mut Tag,
+) -> u8 {
+    unsafe {
+        votrikany_seal(
+            key.as_ptr(),
+            nonce.as_ptr(),
+            ad.as_ptr(),
+            ad.len(),
+            message.as_ptr(),
+            message.len(),
+            out.as_mut_ptr(),
+            out.len(),
+            tag.as_mut_ptr(),
+        )
+    }
 }
 
 #[cfg(feature = "std")]
 pub fn open(key: &Key, nonce: &Nonce, ad: &[u8], cipher: &[u8], tag: &Tag, out: &mut [u8]) -> u8 {
-    unsafe { votrikany_open(key.as_ptr(), nonce.as_ptr(), ad.as_ptr(), ad.len(), cipher.as_ptr(), cipher.len(), tag.as_ptr(), out.as_mut_ptr(), out.len()) }
+    unsafe {
+        votrikany_open(
+            key.as_ptr(),
+            nonce.as_ptr(),
+            ad.as_ptr(),
+            ad.len(),
+            cipher.as_ptr(),
+            cipher.len(),
+            tag.as_ptr(),
+            out.as_mut_ptr(),
+            out.len(),
+        )
+    }
 }
 
-pub fn write_line(key: &Key, nonce: &Nonce, ad: &[u8], message: &[u8], line: &mut [u8], size: &mut usize) -> u8 {
-    unsafe { votrikany_write_line(key.as_ptr(), nonce.as_ptr(), ad.as_ptr(), ad.len(), message.as_ptr(), message.len(), line.as_mut_ptr(), line.len(), size) }
+pub fn write_line(
+    key: &Key,
+    nonce: &Nonce,
+    ad: &[u8],
+    message: &[u8],
+    line: &mut [u8],
+    size: &mut usize,
+) -> u8 {
+    unsafe {
+        votrikany_write_line(
+            key.as_ptr(),
+            nonce.as_ptr(),
+            ad.as_ptr(),
+            ad.len(),
+            message.as_ptr(),
+            message.len(),
+            line.as_mut_ptr(),
+            line.len(),
+            size,
+        )
+    }
 }
 
-pub fn read_line(journal: &[u8], place: usize, key: &Key, frame: &mut [u8], next: &mut usize, n: &mut usize, m: &mut usize) -> u8 {
-    unsafe { votrikany_read_line(journal.as_ptr(), journal.len(), place, key.as_ptr(), frame.as_mut_ptr(), frame.len(), next, n, m) }
+pub fn read_line(
+    journal: &[u8],
+    place: usize,
+    key: &Key,
+    frame: &mut [u8],
+    next: &mut usize,
+    n: &mut usize,
+    m: &mut usize,
+) -> u8 {
+    unsafe {
+        votrikany_read_line(
+            journal.as_ptr(),
+            journal.len(),
+            place,
+            key.as_ptr(),
+            frame.as_mut_ptr(),
+            frame.len(),
+            next,
+            n,
+            m,
+        )
+    }
 }

@@ -1,5 +1,5 @@
 -- What the functions for C and Rust promise: what the cipher and the journal promise, with the parts of the answer
--- where a caller finds them. A dash marks what a buffer or a number holds at exit.
+-- where a caller finds them. A prime marks what a buffer or a number holds at exit.
 use Prim.Native.Nat.{ℕ}
 use mathlib.Core.List.{List}
 use Rattle.morus.specs.Morus.{begun, Encrypted, Decrypted, EncryptedInto, DecryptedInto}

@@ -3,15 +3,6 @@ use borrow.Author.Needs.{needs}
 use Rattle.export.proofs.votrikany_open_in_place.Statement.{statement}
 use Rattle.export.proofs.votrikany_open_in_place.Tie as tie
 
-new-requires : tie.Need-new-requires
-new-requires c κs = search needs
-
-decrypt-in-place-requires : tie.Need-decrypt-in-place-requires
-decrypt-in-place-requires c κs = search needs
-
-same-length : tie.Need-same-length
-same-length c = search needs
-
 returns : tie.Need-returns
 returns c =
     let d : tie.After-decrypt-in-place = c .before .before in
@@ -19,4 +10,4 @@ returns c =
 
 pub votrikany-open-in-place-spec : {M : Type 1} → statement M
 votrikany-open-in-place-spec =
-    tie.close (tie.spec new-requires decrypt-in-place-requires same-length returns)
+    tie.close (tie.spec (λ c κs. search needs) (λ c κs. search needs) (λ c. search needs) returns)

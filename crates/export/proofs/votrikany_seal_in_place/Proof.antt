@@ -3,15 +3,6 @@ use borrow.Author.Needs.{needs}
 use Rattle.export.proofs.votrikany_seal_in_place.Statement.{statement}
 use Rattle.export.proofs.votrikany_seal_in_place.Tie as tie
 
-new-requires : tie.Need-new-requires
-new-requires c κs = search needs
-
-encrypt-in-place-requires : tie.Need-encrypt-in-place-requires
-encrypt-in-place-requires c κs = search needs
-
-same-length : tie.Need-same-length
-same-length c = search needs
-
 returns : tie.Need-returns
 returns c =
     let d : tie.After-encrypt-in-place = c .before .before .before in
@@ -19,4 +10,4 @@ returns c =
 
 pub votrikany-seal-in-place-spec : {M : Type 1} → statement M
 votrikany-seal-in-place-spec =
-    tie.close (tie.spec new-requires encrypt-in-place-requires same-length returns)
+    tie.close (tie.spec (λ c κs. search needs) (λ c κs. search needs) (λ c. search needs) returns)
