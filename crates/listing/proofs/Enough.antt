@@ -1,14 +1,14 @@
 -- The first 60,034 bytes of an input fix its listing: the key line, a journal of 60,000 bytes, and one byte more that shows that it is too big.
-use Prim.Native.Nat.{ℕ, _-_, _≤_, _<_}
+use Prim.Native.Nat.{ℕ, _≤_, _<_}
 use mathlib.Core.Path.{_≡_, refl}
 use mathlib.Core.Bool.{Bool, true, false}
 use mathlib.Core.List.{List}
 use native.Mathlib.Omega.{arith}
-use lib.ListN.{length, getD, take, drop, length-drop}
+use lib.ListN.{length, take, drop, length-drop}
 use lib.Seq.{take-all, take-take, getD-take, length-take-le}
 use lib.Dec.{leb}
 use borrow.Author.Tests.{le-leb, lt-leb, leb-true, leb-false}
-use Rattle.listing.specs.KeyLine.{goodKey, journalOf}
+use Rattle.listing.specs.KeyLine.{goodKey}
 use Rattle.listing.specs.Listing.{listing, mostJournal}
 
 module _ (input : List ℕ) (n : ℕ) (h : 60034 ≤ n) where

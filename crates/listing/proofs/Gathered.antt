@@ -1,14 +1,13 @@
 -- Parts gathered into a buffer: what is left to gather says what the whole will be.
-use Prim.Native.Nat.{ℕ, _+_, _-_, _≤_, _<_}
+use Prim.Native.Nat.{ℕ, _-_, _≤_, _<_}
 use mathlib.Core.Path.{_≡_, refl, sym, ap, _∙_}
-use mathlib.Core.Bool.{true, false, cond}
+use mathlib.Core.Bool.{true, false}
 use mathlib.Core.List.{List, [], _∷_, _++_, append-assoc, append-nil}
 use native.Mathlib.Omega.{arith}
-use lib.ListN.{length, take, drop, length-append, length-drop, take-append-drop}
+use lib.ListN.{length, take, drop, take-append-drop}
 use lib.Seq.{length-take-le, drop-drop}
 use borrow.Author.Tests.{le-leb, lt-leb}
-use Rattle.listing.specs.declared.report.Piece.{Piece}
-use Rattle.listing.specs.Pieces.{Part, front, rest, pieceOf}
+use Rattle.listing.specs.Pieces.{Part, front, rest}
 use Rattle.listing.specs.Put.{Put}
 use Rattle.listing.specs.Promise.{Filled}
 use Rattle.listing.proofs.Put.{put-front, put-rest, put-length}

@@ -2,7 +2,6 @@
 -- calls' texts, joined, are the texts of all parts.
 use Prim.Native.Nat.{ℕ, zero, suc, _+_, _-_, _≤_, _<_}
 use mathlib.Core.Path.{_≡_, refl, sym, ap, _∙_}
-use mathlib.Core.Logic.{_⊎_, inl, inr}
 use mathlib.Core.Bool.{Bool, true, false, cond}
 use mathlib.Core.List.{List, [], _∷_, _++_, map, append-assoc, append-nil}
 use native.Mathlib.Omega.{arith}
@@ -19,7 +18,7 @@ use Rattle.listing.specs.Listing.{answers, listing, badKey, tooBig, most
 use Rattle.listing.specs.Pieces.{Part, part, alone, answersFrom, parts, front, rest, firstPlace, none}
 use Rattle.listing.specs.Promise.{PieceFilled}
 use Rattle.listing.specs.Claims.{Written, last, more}
-use Rattle.listing.proofs.Steps.{Step, step}
+use Rattle.listing.proofs.Steps.{step}
 use Rattle.listing.proofs.Parts.{beyond}
 
 -- ---- all texts

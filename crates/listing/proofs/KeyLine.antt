@@ -1,14 +1,14 @@
 -- The key line by its tests: too short, no newline, a byte that is no digit, good.
-use Prim.Native.Nat.{ℕ, _/_, _%_, _≤_, _<_}
+use Prim.Native.Nat.{ℕ, _≤_, _<_}
 use mathlib.Core.Path.{_≡_, refl, sym, ap, _∙_}
 use mathlib.Core.Bool.{Bool, true, false, cond}
-use mathlib.Core.List.{List, _++_, append-nil}
+use mathlib.Core.List.{List, append-nil}
 use native.Mathlib.Omega.{arith}
-use lib.ListN.{length, getD, take, drop, replicate}
+use lib.ListN.{length, getD, take, replicate}
 use lib.Seq.{length-take-le, take-all}
 use borrow.Author.Tests.{le-leb, lt-leb, eq-eqb, ne-eqb}
 use Rattle.hex.specs.Hex.{allDigits, unhex}
-use Rattle.hex.specs.Promise.{number, stored, readOf, ReadOf}
+use Rattle.hex.specs.Promise.{number, readOf, ReadOf}
 use Rattle.hex.specs.declared.answer.Read.{Read}
 use Rattle.hex.specs.declared.answer.Read.the-variants as Answer
 use Rattle.hex.proofs.Index.{unhex-length}

@@ -1,32 +1,35 @@
 -- How long texts are: the numbers by their digits, the message by m, and one answer of a journal that is not too big.
 use Prim.Native.Nat.{ℕ, _+_, _*_, _^_, _≤_, _<_}
-use mathlib.Core.Path.{_≡_, refl}
+use mathlib.Core.Path.{_≡_}
 use mathlib.Core.Bool.{Bool, true, false, cond, _&&_}
 use mathlib.Core.List.{List, [], _∷_, _++_}
 use native.Mathlib.Omega.{arith}
-use lib.ListN.{length, take, drop, length-append, length-take}
+use lib.ListN.{length, length-append, length-take}
 use lib.Dec.{ltb, eqb}
 use Rattle.hex.specs.Hex.{hexOf}
 use Rattle.hex.proofs.Index.{hex-length}
 use Rattle.journal.specs.Line.{newline}
-use Rattle.journal.specs.Reader.{Reading, readAt}
+use Rattle.journal.specs.Reader.{readAt}
 use Rattle.journal.specs.Run.{entry}
 use Rattle.listing.specs.Decimal.{decimal}
-use Rattle.listing.specs.Text.{space, word, numbers, shown, answerText}
+use Rattle.listing.specs.Text.{space, word, numbers, messageIn, shown, answerText}
 use Rattle.listing.proofs.Decimal.{decimal-length, decimal-fits}
-use Rattle.listing.proofs.Small.{Small, read-small}
+use Rattle.listing.proofs.Small.{read-small}
 
 pub numbers-length : (place number n m : ℕ) → length (numbers place number n m) ≡ length (decimal place) + length (decimal number) + length (decimal n) + length (decimal m) + 3
 unfolding numbers
 numbers-length place number n m =
     omega (arith, length-append (decimal place ++ word number ++ word n) (word m), length-append (decimal place ++ word number) (word n), length-append (decimal place) (word number))
 
+message-length : (n m : ℕ) (frame : List ℕ) → length (messageIn n m frame) ≤ m
+message-length n m frame = rw length-take (omega arith)
+
 pub shown-length : (number n m : ℕ) (frame : List ℕ) → length (shown number n m frame) ≤ 1 + 2 * m
 unfolding shown
 shown-length number n m frame = go (eqb number 0 && ltb 0 m)
   where
-    go : (b : Bool) → length (cond b (space ∷ hexOf (take m (drop (17 + n) frame))) []) ≤ 1 + 2 * m
-    go true = omega (arith, hex-length (take m (drop (17 + n) frame)), length-take m (drop (17 + n) frame))
+    go : (b : Bool) → length (cond b (space ∷ hexOf (messageIn n m frame)) []) ≤ 1 + 2 * m
+    go true = omega (arith, hex-length (messageIn n m frame), message-length n m frame)
     go false = omega arith
 
 -- numbers that fit a word of the machine

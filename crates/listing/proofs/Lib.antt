@@ -1,5 +1,6 @@
 pub mod Put
 pub mod Decimal
+pub mod Digits
 pub mod Hex
 pub mod KeyLine
 pub mod Shown

@@ -1,25 +1,25 @@
 -- What the listing shows of a line that the sealing made: 0, n, m and, where there is any, the very message that was sealed.
-use Prim.Native.Nat.{ℕ, _+_, _-_, _≤_}
-use mathlib.Core.Path.{_≡_, refl, ap, _∙_}
+use Prim.Native.Nat.{ℕ, _+_}
+use mathlib.Core.Path.{_≡_, refl}
 use mathlib.Core.Bool.{cond}
 use mathlib.Core.List.{List, [], _∷_, _++_, append-assoc}
 use native.Mathlib.Omega.{arith}
-use lib.ListN.{length, take, drop, replicate, length-append}
-use lib.Seq.{take-at, drop-at, drop-drop}
+use lib.ListN.{length, length-append}
+use lib.Seq.{take-at, drop-at}
 use lib.Dec.{ltb}
 use Rattle.morus.specs.Seal.{sealTag}
 use Rattle.hex.specs.Hex.{hexOf}
 use Rattle.journal.specs.Frame.{frameWith}
 use Rattle.journal.specs.Line.{newline, Made, lineAt}
-use Rattle.journal.specs.Reader.{Reading, opened, readAt}
+use Rattle.journal.specs.Reader.{opened, readAt}
 use Rattle.journal.specs.Run.{entry}
 use Rattle.journal.specs.Claims.{handed}
 use Rattle.journal.proofs.Opened.{hands-out}
-use Rattle.listing.specs.Text.{space, numbers, shown, answerText}
+use Rattle.listing.specs.Text.{space, numbers, messageIn, shown, answerText}
 use Rattle.listing.specs.Listing.{frameSize}
 
 -- the message of an opened frame, whatever stands behind the frame
-in-frame : (nonce ad message tag fill : List ℕ) → length nonce ≡ 16 → take (length message) (drop (17 + length ad) (frameWith nonce ad message tag ++ fill)) ≡ message
+in-frame : (nonce ad message tag fill : List ℕ) → length nonce ≡ 16 → messageIn (length ad) (length message) (frameWith nonce ad message tag ++ fill) ≡ message
 in-frame nonce ad message tag fill h =
     let body = message ++ tag in
     let head = nonce ++ (length ad ∷ ad) in

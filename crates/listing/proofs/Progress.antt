@@ -1,10 +1,10 @@
 -- A call with room for any answer is the last or moves on, so the end is reached; what was written then is the listing.
 use Prim.Native.Nat.{ℕ, zero, suc, _+_, _-_, _≤_, _<_}
-use mathlib.Core.Path.{_≡_, refl, sym, ap, _∙_}
+use mathlib.Core.Path.{_≡_, refl, sym, _∙_}
 use mathlib.Core.Bool.{Bool, true, false, cond}
 use mathlib.Core.List.{List, [], _∷_, _++_}
 use native.Mathlib.Omega.{arith}
-use lib.ListN.{length, take, drop, length-append}
+use lib.ListN.{length, drop, length-append}
 use lib.Dec.{leb, eqb}
 use borrow.Author.Tests.{le-leb, leb-true}
 use Rattle.journal.specs.Reader.{Reading, readAt}
@@ -13,12 +13,12 @@ use Rattle.listing.specs.declared.report.Piece.{Piece}
 use Rattle.listing.specs.Text.{answerText}
 use Rattle.listing.specs.KeyLine.{goodKey, keyOf, journalOf}
 use Rattle.listing.specs.Listing.{listing, badKey, tooBig, mostJournal, frameSize}
-use Rattle.listing.specs.Pieces.{Part, part, alone, answersFrom, parts, front, rest, firstPlace, none, pieceOf}
+use Rattle.listing.specs.Pieces.{Part, alone, answersFrom, parts, front, rest, firstPlace, none, pieceOf}
 use Rattle.listing.specs.Promise.{PieceFilled}
 use Rattle.listing.specs.Claims.{Written, last, more}
 use Rattle.listing.proofs.Lengths.{answer-length}
-use Rattle.listing.proofs.Steps.{Step, step}
-use Rattle.listing.proofs.Joined.{Left, clash, behind, end-is, next-is, joined}
+use Rattle.listing.proofs.Steps.{step}
+use Rattle.listing.proofs.Joined.{clash, behind, end-is, next-is, joined}
 
 -- the answer at the place fits, so what is left starts later
 moves : (key j : List ℕ) (p room : ℕ) → 529 ≤ room → length j ≤ mostJournal → p ≤ length j → none (rest room (answersFrom key j p)) ≡ false

@@ -6,7 +6,7 @@ use native.Mathlib.Omega.{arith}
 use native.Mathlib.Nat.{add-zero}
 use native.Mathlib.Numerals.{add-one}
 use lib.ListN.{length, take, drop, set, length-append, length-drop}
-use lib.Seq.{paste, paste-zero, set-split, append-snoc, take-length, take-at, drop-at, drop-append-add, drop-drop, length-take-le}
+use lib.Seq.{paste, paste-zero, set-split, append-snoc, take-length, take-at, drop-at, drop-drop, length-take-le}
 use Rattle.listing.specs.Put.{Put}
 
 pub put-nil : (old : List ℕ) (at : ℕ) → Put old at [] at old

@@ -1,14 +1,10 @@
 -- The message is shown for an opened line with m above 0, and for no other.
-use Prim.Native.Nat.{ℕ, _+_, _*_, _≤_, _<_}
-use mathlib.Core.Path.{_≡_, refl}
-use mathlib.Core.Bool.{cond, _&&_}
+use Prim.Native.Nat.{ℕ, _<_}
+use mathlib.Core.Path.{_≡_}
 use mathlib.Core.List.{List, [], _∷_}
-use native.Mathlib.Omega.{arith}
-use lib.ListN.{length, take, drop, length-take}
-use lib.Dec.{ltb, eqb}
 use borrow.Author.Tests.{lt-ltb, eq-eqb, ne-eqb}
 use Rattle.hex.specs.Hex.{hexOf}
-use Rattle.listing.specs.Text.{space, shown}
+use Rattle.listing.specs.Text.{space, messageIn, shown}
 
 module _ (number n m : ℕ) (frame : List ℕ) where
   pub not-opened : (number ≡ 0 → ⊥) → shown number n m frame ≡ []
@@ -19,6 +15,6 @@ module _ (number n m : ℕ) (frame : List ℕ) where
   unfolding shown
   no-message h e = rw (h, e)
 
-  pub has-message : number ≡ 0 → 0 < m → shown number n m frame ≡ space ∷ hexOf (take m (drop (17 + n) frame))
+  pub has-message : number ≡ 0 → 0 < m → shown number n m frame ≡ space ∷ hexOf (messageIn n m frame)
   unfolding shown
   has-message h l = rw (eq-eqb number 0 h, lt-ltb 0 m l)

@@ -1,6 +1,6 @@
 -- The answers from a place on: the one there, then those from the next place on, unless it is the end.
-use Prim.Native.Nat.{ℕ, suc, _+_, _≤_, _<_}
-use mathlib.Core.Path.{_≡_, refl, ap, _∙_}
+use Prim.Native.Nat.{ℕ, suc, _≤_, _<_}
+use mathlib.Core.Path.{_≡_, ap, _∙_}
 use mathlib.Core.Logic.{_⊎_, inl, inr}
 use mathlib.Core.Bool.{false, cond}
 use mathlib.Core.List.{List, [], _∷_, map}
@@ -14,7 +14,7 @@ use Rattle.journal.specs.Run.{entry, runFrom}
 use Rattle.journal.proofs.Places.{at-end}
 use Rattle.journal.proofs.Progress.{moves, fuel}
 use Rattle.listing.specs.Listing.{frameSize}
-use Rattle.listing.specs.Pieces.{Part, part, answersFrom}
+use Rattle.listing.specs.Pieces.{part, answersFrom}
 
 module _ (key j : List ℕ) where
   pub inside : (p : ℕ) → p ≤ length j → answersFrom key j p ≡ map part (runFrom key j frameSize (suc (length j)) p)

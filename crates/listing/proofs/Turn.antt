@@ -1,6 +1,6 @@
 -- One turn of gathering: the answer at the next place is left out, is the last, or is followed by those from its next place on.
-use Prim.Native.Nat.{ℕ, _+_, _-_, _≤_, _<_}
-use mathlib.Core.Path.{_≡_, refl, sym, ap, _∙_}
+use Prim.Native.Nat.{ℕ, _-_, _≤_, _<_}
+use mathlib.Core.Path.{_≡_, sym, _∙_}
 use mathlib.Core.Bool.{true, false, cond}
 use mathlib.Core.List.{List, [], _∷_}
 use native.Mathlib.Omega.{arith}
@@ -9,14 +9,13 @@ use lib.Dec.{eqb}
 use Rattle.journal.specs.Reader.{readAt}
 use Rattle.journal.specs.Run.{entry}
 use Rattle.listing.specs.declared.gather.Shown.{Shown}
-use Rattle.listing.specs.declared.report.Piece.{Piece}
 use Rattle.listing.specs.Text.{answerText}
-use Rattle.listing.specs.Pieces.{Part, part, answersFrom}
+use Rattle.listing.specs.Pieces.{part, answersFrom}
 use Rattle.listing.specs.Put.{Put}
 use Rattle.listing.specs.Promise.{ShownAs, Filled}
 use Rattle.listing.proofs.Put.{put-front, put-within}
 use Rattle.listing.proofs.Gathered.{Gathered, stop, go-on, finish}
-use Rattle.listing.proofs.Steps.{Step, step}
+use Rattle.listing.proofs.Steps.{step}
 
 module _ {next : ℕ} {text text' : List ℕ} {s : Shown} (key j : List ℕ) (h : ShownAs next (readAt key j next 353) text s text') where
   -- the text that was shown

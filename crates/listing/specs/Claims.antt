@@ -1,8 +1,8 @@
--- The words of the theorem about pieces.
-use Prim.Native.Nat.{ℕ}
+-- The words of the theorems.
+use Prim.Native.Nat.{ℕ, _+_, _-_, _*_}
 use mathlib.Core.Path.{_≡_}
 use mathlib.Core.Bool.{true, false}
-use mathlib.Core.List.{List, _++_}
+use mathlib.Core.List.{List, [], _∷_, _++_}
 use lib.ListN.{take}
 use Rattle.listing.specs.Promise.{PieceFilled}
 use Rattle.listing.specs.declared.report.Piece.{Piece}
@@ -14,3 +14,8 @@ pub data Written (input : List ℕ) : ℕ → List ℕ → Type 0 where
       → Written input place (take (r .length) out')
   more : {place : ℕ} {out out' text : List ℕ} {r : Piece} → PieceFilled input place out r out' → r .end ≡ false
       → Written input (r .next) text → Written input place (take (r .length) out' ++ text)
+
+-- the number that decimal digits say, behind digits that said `before`
+abbrev pub numberIn : (before : ℕ) → (digits : List ℕ) → ℕ
+numberIn before [] = before
+numberIn before (d ∷ ds) = numberIn (before * 10 + (d - 48)) ds

@@ -22,8 +22,12 @@ unfoldable pub numbers : (place number n m : ℕ) → List ℕ
 numbers place number n m = decimal place ++ word number ++ word n ++ word m
 
 -- the message, which an opened frame holds behind nonce, n and data
+abbrev pub messageIn : (n m : ℕ) → (frame : List ℕ) → List ℕ
+messageIn n m frame = take m (drop (17 + n) frame)
+
+-- for an opened line with m above 0
 unfoldable pub shown : (number n m : ℕ) → (frame : List ℕ) → List ℕ
-shown number n m frame = cond (eqb number 0 && ltb 0 m) (space ∷ hexOf (take m (drop (17 + n) frame))) []
+shown number n m frame = cond (eqb number 0 && ltb 0 m) (space ∷ hexOf (messageIn n m frame)) []
 
 unfoldable pub answerText : Entry → List ℕ
 answerText e =

@@ -7,7 +7,6 @@ use crate::text::put_shown;
 use journal::read_line;
 use morus::Key;
 ghost use Prim.Native.Nat.{_≤_};
-ghost use mathlib.Core.Path.{_≡_};
 ghost use lib.ListN.{length};
 ghost use Rattle.journal.specs.Reader.{readAt};
 ghost use Rattle.listing.specs.Pieces.{answersFrom};

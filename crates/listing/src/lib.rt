@@ -8,7 +8,6 @@ use gather::gather;
 use key::key_line;
 pub use report::Piece;
 use text::put_bytes;
-ghost use Rattle.listing.specs.Listing.{badKey, tooBig};
 ghost use Rattle.listing.specs.Pieces.{alone};
 ghost use Rattle.listing.specs.Promise.{Filled, PieceFilled};
 

@@ -1,15 +1,14 @@
 -- Each return by the law of the test that leads there; what is gathered is what is left at the place.
-use Prim.Native.Nat.{_-_, _≤_}
+use Prim.Native.Nat.{_-_}
 use mathlib.Core.List.{[]}
 use lib.Seq.{take-all}
-use mathlib.Core.Path.{_≡_, refl, sym, ap, _∙_}
+use mathlib.Core.Path.{_≡_, sym, ap, _∙_}
 use mathlib.Core.Bool.{true, false}
 use native.Mathlib.Omega.{arith}
 use lib.ListN.{length, drop, length-drop}
 use borrow.Author.Tests.{not-true, not-false}
 use Rattle.listing.specs.declared.key.KeyLine.{KeyLine}
 use Rattle.listing.specs.KeyLine.{goodKey, keyOf}
-use Rattle.listing.specs.Pieces.{parts, answersFrom}
 use Rattle.listing.proofs.Gathered.{begin, finish}
 use Rattle.listing.proofs.Parts.{line-good, line-key, line-long, bad, big, journal, beyond, promised}
 use borrow.Author.Needs.{needs}

@@ -1,5 +1,5 @@
 -- The invariant: what is left to gather, from the next place on, says what the whole will be. The next place moves on at every turn but the last.
-use Prim.Native.Nat.{_-_, _≤_, _<_}
+use Prim.Native.Nat.{_-_, _≤_}
 use mathlib.Core.Path.{_≡_, refl, sym, _∙_}
 use native.Mathlib.Omega.{arith}
 use lib.ListN.{length}
@@ -7,7 +7,6 @@ use Rattle.listing.specs.Pieces.{answersFrom}
 use lib.Seq.{length-take-le}
 use Rattle.listing.proofs.Gathered.{Gathered, begin}
 use Rattle.listing.proofs.Turn.{shown-within, onward, no-room, last, more}
-use borrow.Author.Needs.{needs}
 use Rattle.listing.proofs.gather.gather.Statement.{statement}
 use Rattle.listing.proofs.gather.gather.Tie as tie
 

@@ -1,6 +1,5 @@
 -- The answer's numbers are small, so its text fits.
 use native.Mathlib.Omega.{arith}
-use lib.ListN.{length}
 use Rattle.listing.proofs.Lengths.{numbers-fit, shown-length}
 use Rattle.listing.proofs.Shows.{answer-small, shows}
 use borrow.Author.Needs.{needs}

@@ -1,5 +1,5 @@
 -- Each return by the law of its test.
-use mathlib.Core.Path.{_≡_, sym}
+use mathlib.Core.Path.{sym}
 use native.Mathlib.Omega.{arith}
 use lib.Seq.{length-take-le}
 use Rattle.listing.proofs.KeyLine.{too-short, no-newline, good-key, bad-key, no-other, no-lack}

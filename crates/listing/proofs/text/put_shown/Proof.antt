@@ -1,7 +1,6 @@
 -- Nothing is put for a line that is not opened, nor for an empty message; otherwise a space and the digits.
 use native.Mathlib.Omega.{arith}
-use Prim.Native.Nat.{_+_, _-_}
-use mathlib.Core.Path.{_≡_, sym, ap, _∙_}
+use native.Mathlib.Nat.{add-sub-cancel-left}
 use Rattle.listing.proofs.Put.{put-nil, put-put}
 use Rattle.listing.proofs.Shown.{not-opened, no-message, has-message}
 use borrow.Author.Needs.{needs}
@@ -24,9 +23,8 @@ returns-3 c =
     let b : tie.After-put-byte = h .before .before .before .before .before in
     let t : tie.Else2 = b .before .before in
     let s : tie.Start = t .before .before .before .before in
-    let k : 17 + s .args .n + s .args .m - (17 + s .args .n) ≡ s .args .m = omega arith in
     rw (has-message (s .args .number) (s .args .n) (s .args .m) (s .args .frame .now) (t .before .if1 .left) (omega (arith, t .if2 .left)))
-    (put-put (b .put-byte .ensures) (rw k at (h .put-hex .ensures)) (omega (arith, s .pre)))
+    (put-put (b .put-byte .ensures) (rw add-sub-cancel-left at (h .put-hex .ensures)) (omega (arith, s .pre)))
 
 pub put-shown-spec : {M : Type 1} → statement M
 put-shown-spec =

@@ -1,11 +1,11 @@
 -- The invariant: the digits of what is left, then those written, are the number's; and there is room for what is left.
-use mathlib.Core.Path.{_≡_, refl, sym, _∙_}
+use mathlib.Core.Path.{_≡_, sym, _∙_}
 use mathlib.Core.List.{_++_, append-nil}
-use Prim.Native.Nat.{_+_, _-_, _^_, _≤_, _<_}
+use Prim.Native.Nat.{_+_, _^_, _≤_, _<_}
 use native.Mathlib.Omega.{arith}
 use lib.ListN.{length, drop, length-set, drop-of-length-le}
 use Rattle.listing.specs.Decimal.{decimal}
-use Rattle.listing.proofs.Decimal.{decimal-one, room-left, tenth-fits, digit-put, last-put}
+use Rattle.listing.proofs.Decimal.{room-left, tenth-fits, digit-put, last-put}
 use borrow.Author.Needs.{needs}
 use Rattle.listing.proofs.text.spell.Statement.{statement}
 use Rattle.listing.proofs.text.spell.Tie as tie
