@@ -2,11 +2,13 @@
 use Prim.Native.Nat.{ℕ, _≤_}
 use mathlib.Core.Path.{_≡_, refl}
 use mathlib.Core.List.{List}
-use Rattle.journal.specs.Run.{run}
-use Rattle.journal.proofs.Run.{reads}
-use Rattle.journal.proofs.Starts.{run-starts}
-use Rattle.journal.proofs.Progress.{ends}
-use Rattle.journal.proofs.Damage.{two-journals, replaced}
+use Rattle.run.specs.Run.{run}
+use Rattle.run.proofs.Run.{reads}
+use Rattle.run.proofs.Starts.{run-starts}
+use Rattle.run.proofs.Progress.{ends}
+use Rattle.run.proofs.Damage.{two-journals, replaced}
+use Rattle.journal.specs.Reader.{readText}
+use Rattle.journal.proofs.Rows.{not-end}
 use Rattle.journal.proofs.Opened.{run-exactly}
 use Rattle.journal.proofs.Made.{made-once}
 use Rattle.demands.specs.Three.{Journal, Demand3}
@@ -16,11 +18,11 @@ unfolding run
 demand3 key size big =
     record {
       calls = λ j frame place e h. (rw e at (h .answer), rw e at (h .buffer));
-      of-calls = λ j. reads key size big j _ 0;
-      every-line = run-starts key size big;
-      ends = ends key size big;
-      two-journals = two-journals key size big;
-      damage = replaced key size big;
+      of-calls = λ j. reads (readText key) size j _ 0;
+      every-line = run-starts (readText key) (not-end key) size big;
+      ends = ends (readText key) (not-end key) size big;
+      two-journals = two-journals (readText key) (not-end key) size big;
+      damage = replaced (readText key) (not-end key) size big;
       opened = run-exactly key size big;
       once = made-once key;
     }

@@ -3,9 +3,9 @@ use Prim.Native.Nat.{ℕ, _*_, _+_}
 use mathlib.Core.Path.{_≡_, refl}
 use mathlib.Core.List.{List, [], _∷_}
 use lib.ListN.{length, replicate}
-use Rattle.morus.specs.Lane.{turn, laneOf, _⊕_, _&_, turned, moved}
-use Rattle.morus.specs.Update.{step1, step2, step3, step4, step5, firstSteps, lastSteps, update}
-use Rattle.morus.specs.Blocks.{keyStream}
+use Rattle.state.specs.Lane.{turn, laneOf, _⊕_, _&_, turned, moved}
+use Rattle.state.specs.Update.{step1, step2, step3, step4, step5, firstSteps, lastSteps, update}
+use Rattle.state.specs.Block.{keyStream}
 use Rattle.journal.specs.Tests.{firstFailing}
 use Rattle.journal.specs.Reader.{frameTests}
 use Rattle.journal.proofs.Sizes.{line-size}

@@ -6,23 +6,25 @@ use Prim.Native.Nat.{ℕ, _+_, _<_, _≤_}
 use mathlib.Core.Path.{_≡_}
 use mathlib.Core.List.{List, _∷_, _++_}
 use lib.ListN.{length}
+use Rattle.run.specs.Line.{newline}
+use Rattle.run.specs.Run.{Entry, answersBefore, answersFrom, places, starts}
+use Rattle.run.specs.Claims.{Every, Pairwise, Alike, Ends}
 use Rattle.journal.specs.declared.Answer.{Answer}
-use Rattle.journal.specs.Line.{newline, Fits, lineOf}
-use Rattle.journal.specs.Reader.{readAt}
-use Rattle.journal.specs.Run.{Entry, run, answersBefore, answersFrom, places, starts}
-use Rattle.journal.specs.Claims.{Every, Pairwise, Alike, Right, Ends}
-use Rattle.journal.specs.Promise.{LineRead}
+use Rattle.journal.specs.Line.{Fits, lineOf}
+use Rattle.journal.specs.Reader.{readText, readAt, run}
+use Rattle.journal.specs.Claims.{Right}
+use Rattle.journal.specs.Promise.{answerOf, LineRead}
 
 -- `run key journal size` is the list of answers with their places that reading from 0 gives, up to the end answer, with
 -- buffers of `size` bytes
 pub record Journal (key : List ℕ) (size : ℕ) : Type 0 where
   -- each answer of the run is what a call at its place gives
   pub calls : (j frame : List ℕ) (place : ℕ) {r : Answer} {frame' : List ℕ} → length frame ≡ size → LineRead j place key frame r frame'
-      → (r ≡ readAt key j place size .answer) × (frame' ≡ readAt key j place size .buffer)
+      → (r ≡ answerOf (readAt key j place size)) × (frame' ≡ readAt key j place size .verdict .buffer)
   pub of-calls : (j : List ℕ) → Every (λ (e : Entry). e .reading ≡ readAt key j (e .place) size) (run key j size)
   -- the answers start at 0 and after each newline, up to the end, each once; and the end answer comes by call L + 1
   pub every-line : (j : List ℕ) → places (run key j size) ≡ starts j
-  pub ends : (j : List ℕ) → Ends key j size
+  pub ends : (j : List ℕ) → Ends (readText key) j size
   -- two journals: T's lines are answered alike, and places and next places differ by the difference in length
   pub two-journals : (A B T : List ℕ)
       → Pairwise (Alike (length A) (length B))

@@ -3,11 +3,11 @@ use Prim.Native.Nat.{ℕ, _+_, _*_, _^_}
 use mathlib.Core.Path.{_≡_}
 use mathlib.Core.List.{List, [], _∷_}
 use lib.ListN.{length, replicate}
-use Rattle.morus.specs.Lane.{turn, word, lane4, zeroLane, laneOf}
-use Rattle.morus.specs.Update.{state, zeroState, update}
-use Rattle.morus.specs.Start.{constants}
-use Rattle.morus.specs.Blocks.{keyStream}
-use Rattle.morus.specs.Tag.{lengths}
+use Rattle.state.specs.Lane.{turn, word, lane4, zeroLane, laneOf}
+use Rattle.state.specs.Update.{state, zeroState, update}
+use Rattle.state.specs.Start.{constants}
+use Rattle.state.specs.Block.{keyStream}
+use Rattle.morus.specs.Seal.{lengths}
 use Rattle.journal.specs.Line.{lineOf}
 use Rattle.journal.specs.Tests.{firstFailing}
 use Rattle.journal.specs.Reader.{frameTests}

@@ -2,15 +2,22 @@
 use Prim.Native.Nat.{ℕ}
 use mathlib.Core.Path.{_≡_, sym, _∙_}
 use mathlib.Core.List.{List}
+use Rattle.journal.specs.declared.Verdict.{Verdict}
 use Rattle.journal.specs.declared.Answer.{Answer}
 use Rattle.journal.specs.declared.Line.{Line}
-use Rattle.journal.specs.Promise.{LineWritten, LineRead}
+use Rattle.journal.specs.Promise.{LineWritten, TextRead, LineRead}
 
 pub write-line : {key nonce ad message line line₁ line₂ : List ℕ} {r₁ r₂ : Line}
     → LineWritten key nonce ad message line r₁ line₁
     → LineWritten key nonce ad message line r₂ line₂
     → (r₁ ≡ r₂) × (line₁ ≡ line₂)
 write-line a b = (a .report ∙ sym (b .report), a .buffer ∙ sym (b .buffer))
+
+pub read-text : (text key frame : List ℕ) {frame₁ frame₂ : List ℕ} {r₁ r₂ : Verdict}
+    → TextRead text key frame r₁ frame₁
+    → TextRead text key frame r₂ frame₂
+    → (r₁ ≡ r₂) × (frame₁ ≡ frame₂)
+read-text text key frame a b = (a .said ∙ sym (b .said), a .buffer ∙ sym (b .buffer))
 
 pub read-line : {journal key frame frame₁ frame₂ : List ℕ} {place : ℕ} {r₁ r₂ : Answer}
     → LineRead journal place key frame r₁ frame₁

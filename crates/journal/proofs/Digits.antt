@@ -17,7 +17,7 @@ use Rattle.journal.proofs.Tests.{AllPass, zero-pass, first-le}
 
 pub text-le : (text : List ℕ) → firstFailing (textTests text) ≤ 6
 unfolding textTests
-text-le text = first-le 6 (textTests text) (tt, (tt, (tt, tt)))
+text-le text = first-le 6 (textTests text) tt
 
 -- the frame that was read
 pub record Digits (text bytes' : List ℕ) (count : ℕ) : Type 0 where
@@ -34,7 +34,7 @@ module _ {text bytes bytes' : List ℕ} {r : Read} (h : ReadOf text bytes r byte
   unfolding textTests
   read-digits count e =
       let z : firstFailing (textTests text) ≡ 0 = sym text-number ∙ ap number e in
-      let p : AllPass (textTests text) = zero-pass (textTests text) (tt, (tt, (tt, tt))) z in
+      let p : AllPass (textTests text) = zero-pass (textTests text) tt z in
       let D = decoded text (p .1 .0) (eqb-true (length text % 2) 0 (p .1 .1 .0)) in
       let k : Answer.Bytes count ≡ Answer.Bytes (length text / 2) = sym e ∙ h .answer ∙ rw (p .1 .0, p .1 .1 .0, le-leb (length text / 2) (length bytes) (omega arith)) in
       let c : count ≡ length text / 2 = ap stored k in

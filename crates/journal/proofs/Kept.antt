@@ -1,5 +1,5 @@
 -- Whatever the answer, the frame buffer is as long as it was: an opened frame fits in it, and behind it and with any other answer it is filled.
-use Prim.Native.Nat.{ℕ, zero, suc, _+_, _-_, _≤_}
+use Prim.Native.Nat.{ℕ, zero, suc, _-_, _≤_}
 use mathlib.Core.Path.{_≡_, refl, sym, ap, _∙_}
 use mathlib.Core.Bool.{Bool, true, false}
 use mathlib.Core.List.{List}
@@ -11,19 +11,21 @@ use Rattle.morus.specs.Seal.{sealTag}
 use Rattle.morus.proofs.Laws.{tag-length}
 use Rattle.journal.specs.declared.Answer.{Answer}
 use Rattle.journal.specs.Frame.{frameWith}
-use Rattle.journal.specs.Line.{lineAt, Fits, Made}
-use Rattle.journal.specs.Reader.{Reading, refused, opened, readAt}
+use Rattle.run.specs.Line.{lineAt}
+use Rattle.run.specs.Read.{Reading, refused}
+use Rattle.run.proofs.Rows.{too-small}
+use Rattle.journal.specs.Line.{Fits, Made}
+use Rattle.journal.specs.Reader.{opened, readText, readAt}
 use Rattle.journal.specs.Claims.{handed}
 use Rattle.journal.specs.Promise.{LineRead}
 use Rattle.journal.proofs.Frame.{frame-length}
-use Rattle.journal.proofs.Places.{too-small}
 use Rattle.journal.proofs.Opened.{hands-out, opened-exactly}
 use Rattle.journal.proofs.Refused.{not-opened}
 
-handed-length : (key nonce ad message : List ℕ) (next size : ℕ) → Fits nonce ad message → 353 ≤ size
-    → length (handed key nonce ad message next size .buffer) ≡ size
+handed-length : (key nonce ad message : List ℕ) (size : ℕ) → Fits nonce ad message → 353 ≤ size
+    → length (handed key nonce ad message size .buffer) ≡ size
 unfolding handed opened
-handed-length key nonce ad message next size F big =
+handed-length key nonce ad message size F big =
     let t = sealTag key nonce ad message in
     let front = frameWith nonce ad message t in
     length-append front (replicate (size - length front) 0xaa)
@@ -33,15 +35,15 @@ pub keeps-length : {j key frame frame' : List ℕ} {place : ℕ} {r : Answer} �
 unfolding refused
 keeps-length {j} {key} {frame} {frame'} {place} {r} h = go (r .number) refl (ltb (length frame) 353) refl
   where
-    number : r .number ≡ readAt key j place (length frame) .answer .number
+    number : r .number ≡ readAt key j place (length frame) .verdict .number
     number = ap (λ (a : Answer). a .number) (h .answer)
 
     go : (k : ℕ) → r .number ≡ k → (b : Bool) → ltb (length frame) 353 ≡ b → length frame' ≡ length frame
     go zero e true t =
-        absurd (omega (arith, number, ap (λ (x : Reading). x .answer .number) (too-small key j place (length frame) (ltb-true (length frame) 353 t))))
+        absurd (omega (arith, number, ap (λ (x : Reading). x .verdict .number) (too-small (readText key) j place (length frame) (ltb-true (length frame) 353 t))))
     go zero e false t =
         let big = ltb-false (length frame) 353 t in
         let M : Made key (lineAt j place) = opened-exactly key (length frame) big j place .0 (sym number ∙ e) in
-        ap length (h .buffer ∙ ap (λ (x : Reading). x .buffer) (hands-out key (length frame) big j place M))
-        ∙ handed-length key (M .nonce) (M .ad) (M .message) (place + length (lineAt j place)) (length frame) (M .fits) big
+        ap length (h .buffer ∙ ap (λ (x : Reading). x .verdict .buffer) (hands-out key (length frame) big j place M))
+        ∙ handed-length key (M .nonce) (M .ad) (M .message) (length frame) (M .fits) big
     go (suc k) e b t = ap length (not-opened h (omega arith) .fill) ∙ length-replicate (length frame) 170

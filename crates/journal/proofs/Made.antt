@@ -1,5 +1,5 @@
 -- Demand 3, the second half: a line is opened exactly if the sealing made it, and what went in is handed out.
-use Prim.Native.Nat.{ℕ, _+_, _%_}
+use Prim.Native.Nat.{ℕ, _+_, _%_, _≤_}
 use mathlib.Core.Path.{_≡_, sym, ap, _∙_}
 use mathlib.Core.Bool.{true}
 use mathlib.Core.List.{List, [], _∷_, _++_}
@@ -13,16 +13,16 @@ use Rattle.morus.proofs.Laws.{seal-length, seal-bytes, tag-length, tag-bytes, u
 use Rattle.hex.specs.Hex.{hexOf, unhex}
 use Rattle.hex.proofs.Laws.{coded, decoded}
 use Rattle.journal.specs.Frame.{nIn, mIn, nonceIn, adIn, cipherIn, tagIn}
-use Rattle.journal.specs.Line.{newline, textOf, frameOf, lineOf, Fits, Made}
+use Rattle.run.specs.Line.{newline, textOf}
+use Rattle.run.proofs.Newline.{Plain, newlineAt-plain, no-newline}
+use Rattle.journal.specs.Line.{frameOf, lineOf, Fits, Made}
 use Rattle.journal.specs.Tests.{firstFailing}
-use Rattle.journal.specs.Reader.{textTests, frameTests, tagTests, lineTests, opened, openedFrame, given, readText}
+use Rattle.journal.specs.Reader.{bufferTests, textTests, frameTests, tagTests, lineTests, openedFrame, given, readText}
 use Rattle.journal.specs.Claims.{handed}
-use Rattle.journal.proofs.Tests.{must, AllPass, zero-pass}
-use Rattle.journal.proofs.Newline.{Plain, newlineAt-plain, no-newline}
+use Rattle.journal.proofs.Tests.{must, AllPass}
 use Rattle.journal.proofs.Frame.{bytes-cons, bytes-append, bytes-take, bytes-drop, Parts, parts, sound}
-use Rattle.journal.proofs.Rows.{text-passes, frame-passes}
+use Rattle.journal.proofs.Rows.{line-passes, text-number, text-passes, frame-passes}
 use Rattle.journal.proofs.Sizes.{frame-size}
-use Rattle.journal.proofs.Progress.{numbered}
 
 -- the digits of a frame have no newline, so a line's text is the digits
 pub digits-plain : (f : List ℕ) → Bytes f → Plain (hexOf f)
@@ -76,24 +76,25 @@ module _ (key : List ℕ) where
         let m256 = F .message256 in
         (must (λ e. omega (arith, leb-false)), (must (λ e. omega (arith, leb-false)), (must (λ e. omega (arith, leb-false)), (must (λ e. omega (arith, leb-false)), tt))))
 
-    tag-passes : (next size : ℕ) → given key f next size (firstFailing (tagTests key f)) ≡ handed key nonce ad message next size
+    tag-passes : (size : ℕ) → given key f size (firstFailing (tagTests key f)) ≡ handed key nonce ad message size
     unfolding firstFailing tagTests given openedFrame handed
-    tag-passes next size =
+    tag-passes size =
         let P = S .are in
         let a : accepts key (nonceIn f) (adIn f) (cipherIn f) (tagIn f) ≡ true = rw (P .tagIs, P .bodyIs, P .adIs, P .nonceIs) (own key nonce ad message) in
         rw (a, P .tagIs, P .bodyIs, P .adIs, P .nonceIs, P .mIs, P .nIs, back key nonce ad message, seal-length key nonce ad message)
 
-    pub line-opens : (next size : ℕ) → readText key (hexOf f) next size ≡ handed key nonce ad message next size
-    line-opens next size =
-        text-passes key (hexOf f) next size text-pass
-        ∙ rw (coded f (S .bytes) .back) (frame-passes key f next size rows-pass ∙ tag-passes next size)
+    pub line-opens : (size : ℕ) → 353 ≤ size → readText key (hexOf f) size ≡ handed key nonce ad message size
+    line-opens size big =
+        text-passes key (hexOf f) size big text-pass
+        ∙ rw (coded f (S .bytes) .back) (frame-passes key f size rows-pass ∙ tag-passes size)
 
   -- a text that is opened is one that the sealing made
-  pub opened-made : (text : List ℕ) → firstFailing (lineTests key text) ≡ 0 → Made key (text ++ (newline ∷ []))
-  unfolding lineTests textTests frameTests tagTests
-  opened-made text e =
+  pub opened-made : (text : List ℕ) (size : ℕ) → readText key text size .number ≡ 0 → Made key (text ++ (newline ∷ []))
+  unfolding lineTests bufferTests textTests frameTests tagTests
+  opened-made text size e =
       let f = unhex text in
-      let p : AllPass (lineTests key text) = zero-pass (lineTests key text) (numbered key text) e in
+      let all : AllPass (lineTests key text size) = line-passes key text size (sym (text-number key text size) ∙ e) in
+      let p = all .1 in
       let q = p .1 .1 .1 in
       let n64 = q .1 .0 in
       let long = q .1 .1 .0 in

@@ -12,11 +12,13 @@ use Rattle.morus.specs.Morus.{begun, Decrypted}
 use Rattle.morus.specs.declared.Morus.{Morus}
 use Rattle.morus.proofs.Laws.{opened, refused}
 use borrow.Rule.Slice.PartMut.{same-len-mid}
-use Rattle.journal.specs.declared.Answer.{Answer}
+use Rattle.run.specs.Read as Read
+use Rattle.journal.specs.declared.Verdict.{Verdict}
 use Rattle.journal.specs.Frame.{frameWith, nIn, mIn, nonceIn, adIn, cipherIn, tagIn}
 use Rattle.journal.specs.Tests.{firstFailing}
 use Rattle.journal.specs.Reader as Reader
-use Rattle.journal.specs.Reader.{Gives, tagTests, openedFrame, given}
+use Rattle.journal.specs.Reader.{tagTests, openedFrame, given}
+use Rattle.journal.specs.Promise.{Gives}
 use Rattle.journal.proofs.Frame.{frame-length, sound, at-front}
 
 joined : (nonce ad y tag rest : List ℕ) → (nonce ++ (length ad ∷ ad)) ++ (y ++ (tag ++ rest)) ≡ frameWith nonce ad y tag ++ rest
@@ -79,14 +81,14 @@ cut b count least most =
     }
 
 -- what is answered by the cipher's number r, where it left y
-pub record Settled (b : List ℕ) (count : ℕ) (key : List ℕ) (next r : ℕ) (y : List ℕ) : Type 0 where
-  pub refuses : {a : Answer} {frame' : List ℕ} → (r ≡ 0 → ⊥) → Gives (Reader.refused r next (length (put b count y))) a frame'
-      → Gives (given key (take count b) next (length b) (firstFailing (tagTests key (take count b)))) a frame'
+pub record Settled (b : List ℕ) (count : ℕ) (key : List ℕ) (r : ℕ) (y : List ℕ) : Type 0 where
+  pub refuses : {a : Verdict} {frame' : List ℕ} → (r ≡ 0 → ⊥) → Gives (Read.refused r (length (put b count y))) a frame'
+      → Gives (given key (take count b) (length b) (firstFailing (tagTests key (take count b)))) a frame'
   pub opens : {frame' : List ℕ} → r ≡ 0 → frame' ≡ take count (put b count y) ++ replicate (length (put b count y) - count) 0xaa
-      → Gives (given key (take count b) next (length b) (firstFailing (tagTests key (take count b))))
-      (record { number = 0; next = next; n = getD b 16 0; m = count - 16 - (17 + getD b 16 0) }) frame'
+      → Gives (given key (take count b) (length b) (firstFailing (tagTests key (take count b))))
+      (record { number = 0; n = getD b 16 0; m = count - 16 - (17 + getD b 16 0) }) frame'
 
-module _ (b : List ℕ) (count : ℕ) (key : List ℕ) (next : ℕ)
+module _ (b : List ℕ) (count : ℕ) (key : List ℕ)
     (small : count ≤ 353) (most : 353 ≤ length b) (least : 33 + getD b 16 0 ≤ count) (few : getD b 16 0 ≤ 64)
     {nonce tag held y : List ℕ} {r : ℕ} {w : Morus}
     (begins : w ≡ begun nonce key)
@@ -117,27 +119,27 @@ module _ (b : List ℕ) (count : ℕ) (key : List ℕ) (next : ℕ)
   same-length : length (put b count y) ≡ length b
   same-length = same-len-mid (17 + getD b 16 0) (count - 16 - (17 + getD b 16 0)) b y kept
 
-  tag-fails : (r ≡ 0 → ⊥) → given key f next (length b) (firstFailing (tagTests key f)) ≡ Reader.refused r next (length b)
+  tag-fails : (r ≡ 0 → ⊥) → given key f (length b) (firstFailing (tagTests key f)) ≡ Read.refused r (length b)
   unfolding given tagTests firstFailing
   tag-fails h = go (accepts key (nonceIn f) (adIn f) (cipherIn f) (tagIn f)) refl
     where
       go : (a : Bool) → accepts key (nonceIn f) (adIn f) (cipherIn f) (tagIn f) ≡ a
-          → given key f next (length b) (cond a 0 1) ≡ Reader.refused r next (length b)
+          → given key f (length b) (cond a 0 1) ≡ Read.refused r (length b)
       go true e = absurd (h (opened (nonceIn f) key (tagIn f) settled few-data few-cipher e .0))
       go false e = rw (refused (nonceIn f) key (tagIn f) settled few-data few-cipher e .0)
 
   tag-passes : r ≡ 0
-      → given key f next (length b) (firstFailing (tagTests key f))
-      ≡ Reader.opened next (nIn f) (mIn f) (length b) (frameWith (nonceIn f) (adIn f) y (tagIn f))
+      → given key f (length b) (firstFailing (tagTests key f))
+      ≡ Reader.opened (nIn f) (mIn f) (length b) (frameWith (nonceIn f) (adIn f) y (tagIn f))
   unfolding given tagTests firstFailing openedFrame
   tag-passes h = go (accepts key (nonceIn f) (adIn f) (cipherIn f) (tagIn f)) refl
     where
       go : (a : Bool) → accepts key (nonceIn f) (adIn f) (cipherIn f) (tagIn f) ≡ a
-          → given key f next (length b) (cond a 0 1) ≡ Reader.opened next (nIn f) (mIn f) (length b) (frameWith (nonceIn f) (adIn f) y (tagIn f))
+          → given key f (length b) (cond a 0 1) ≡ Reader.opened (nIn f) (mIn f) (length b) (frameWith (nonceIn f) (adIn f) y (tagIn f))
       go true e = rw (opened (nonceIn f) key (tagIn f) settled few-data few-cipher e .1)
       go false e = absurd (omega (arith, refused (nonceIn f) key (tagIn f) settled few-data few-cipher e .0))
 
-  pub settle : Settled b count key next r y
+  pub settle : Settled b count key r y
   unfolding Reader.opened
   settle =
       let front = frameWith (nonceIn f) (adIn f) y (tagIn f) in
@@ -145,5 +147,5 @@ module _ (b : List ℕ) (count : ℕ) (key : List ℕ) (next : ℕ)
       let t : take count (put b count y) ≡ front = ap (take count) (P .put-back y) ∙ take-at front (drop count b) count l in
       record {
         refuses = λ h g. rw (tag-fails h) (rw same-length at g);
-        opens = λ z e. rw (tag-passes z) record { answer = rw (P .m-is, P .n-is); buffer = e ∙ rw (same-length, l, t) };
+        opens = λ z e. rw (tag-passes z) record { said = rw (P .m-is, P .n-is); buffer = e ∙ rw (same-length, l, t) };
       }

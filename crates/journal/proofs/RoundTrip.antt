@@ -14,25 +14,23 @@ use Rattle.hex.specs.Hex.{hexOf}
 use Rattle.journal.specs.declared.Answer.{Answer}
 use Rattle.journal.specs.declared.Line.{Line}
 use Rattle.journal.specs.Frame.{frameWith}
-use Rattle.journal.specs.Line.{newline, frameOf, lineOf, lineLength, Fits}
+use Rattle.run.specs.Line.{newline}
+use Rattle.run.specs.Read.{Reading, reading}
+use Rattle.run.specs.Run.{entry, shift, shiftEntry, answersFrom}
+use Rattle.run.proofs.Newline.{Plain}
+use Rattle.run.proofs.Shift.{read-shift}
+use Rattle.run.proofs.Run.{at-line, one-line}
+use Rattle.run.proofs.Damage.{isolated, shifts}
+use Rattle.journal.specs.Line.{frameOf, lineOf, lineLength, Fits}
 use Rattle.journal.specs.Writer.{writerTests, writerNumber, writing, writeInto}
-use Rattle.journal.specs.Reader.{Reading, opened, readAt}
-use Rattle.journal.specs.Run.{entry, run, shift, shiftEntry, answersFrom}
+use Rattle.journal.specs.Reader.{opened, readText, readAt, run}
 use Rattle.journal.specs.Claims.{handed}
-use Rattle.journal.specs.Promise.{LineWritten, LineRead}
+use Rattle.journal.specs.Promise.{answerOf, LineWritten, LineRead}
 use Rattle.journal.proofs.Tests.{AllPass, zero-pass}
-use Rattle.journal.proofs.Newline.{Plain}
-use Rattle.journal.proofs.Shift.{read-shift}
 use Rattle.journal.proofs.Frame.{frame-length}
 use Rattle.journal.proofs.Made.{digits-plain, is-sealed, line-opens}
 use Rattle.journal.proofs.Sizes.{line-size}
-use Rattle.journal.proofs.Run.{at-line, one-line}
-use Rattle.journal.proofs.Damage.{isolated, shifts}
-
-handed-shift : (key nonce ad message : List ℕ) (d next size : ℕ)
-    → shift d (handed key nonce ad message next size) ≡ handed key nonce ad message (d + next) size
-unfolding shift handed opened
-handed-shift key nonce ad message d next size = refl
+use Rattle.journal.proofs.Rows.{not-end}
 
 -- ---- what was written
 
@@ -54,7 +52,7 @@ module _ {key nonce ad message line line' : List ℕ} {r : Line}
   unfolding writerNumber writerTests
   fits =
       let tests = writerTests (length ad) (length message) (length line) in
-      let p : AllPass tests = zero-pass tests (tt, (tt, (tt, tt))) number in
+      let p : AllPass tests = zero-pass tests tt number in
       record {
         nonce16 = len;
         ad64 = leb-true (length ad) 64 (p .0);
@@ -87,27 +85,27 @@ module _ {key nonce ad message line line' : List ℕ} {r : Line}
   module _ (size : ℕ) (big : 353 ≤ size) where
     -- from any place at which it stands
     pub read-anywhere : (P T : List ℕ)
-        → readAt key (P ++ (take (r .length) line' ++ T)) (length P) size ≡ handed key nonce ad message (length P + r .length) size
+        → readAt key (P ++ (take (r .length) line' ++ T)) (length P) size ≡ reading (handed key nonce ad message size) (length P + r .length)
+    unfolding shift
     read-anywhere P T =
         ap (λ (p : ℕ). readAt key (P ++ (take (r .length) line' ++ T)) p size) (sym (add-zero (length P)))
-        ∙ read-shift key size P (take (r .length) line' ++ T) 0
-        ∙ rw (journal-is T, at-line key size big (hexOf (frameOf key nonce ad message)) T plain, line-opens key nonce ad message fits, digits-length)
-        (handed-shift key nonce ad message (length P) (r .length) size)
+        ∙ read-shift (readText key) size P (take (r .length) line' ++ T) 0
+        ∙ rw (journal-is T, at-line (readText key) size big (hexOf (frameOf key nonce ad message)) T plain, line-opens key nonce ad message fits size big, digits-length)
 
     -- in the run, at the start of a journal
     pub run-first : (T : List ℕ)
         → run key (take (r .length) line' ++ T) size
-        ≡ entry 0 (handed key nonce ad message (r .length) size) ∷ map (shiftEntry (r .length)) (run key T size)
-    run-first T = rw (journal-is T, one-line key size big (hexOf (frameOf key nonce ad message)) T plain, line-opens key nonce ad message fits, digits-length)
+        ≡ entry 0 (reading (handed key nonce ad message size) (r .length)) ∷ map (shiftEntry (r .length)) (run key T size)
+    run-first T = rw (journal-is T, one-line (readText key) (not-end key) size big (hexOf (frameOf key nonce ad message)) T plain, line-opens key nonce ad message fits size big, digits-length)
 
     -- in the run, after any newline
     pub run-after : (A T : List ℕ)
         → answersFrom (length A + 1) (run key (A ++ newline ∷ (take (r .length) line' ++ T)) size)
-        ≡ entry (length A + 1) (handed key nonce ad message (length A + 1 + r .length) size) ∷ map (shiftEntry (length A + 1 + r .length)) (run key T size)
-    unfolding shiftEntry
+        ≡ entry (length A + 1) (reading (handed key nonce ad message size) (length A + 1 + r .length)) ∷ map (shiftEntry (length A + 1 + r .length)) (run key T size)
+    unfolding shiftEntry shift
     run-after A T =
-        isolated key size big A (take (r .length) line' ++ T)
-        ∙ rw (run-first T, handed-shift, add-zero, shifts (length A + 1) (r .length) (length A + 1 + r .length) (run key T size) refl)
+        isolated (readText key) (not-end key) size big A (take (r .length) line' ++ T)
+        ∙ rw (run-first T, add-zero, shifts (length A + 1) (r .length) (length A + 1 + r .length) (run key T size) refl)
 
   -- by what the reader promises: the same nonce, data and message, and 170 behind them
   pub handed-out : {frame frame' : List ℕ} {a : Answer} (P T : List ℕ) → 353 ≤ length frame
@@ -119,6 +117,6 @@ module _ {key nonce ad message line line' : List ℕ} {r : Line}
       let t = sealTag key nonce ad message in
       let k : length (frameWith nonce ad message t) ≡ 33 + length ad + length message = omega (arith, frame-length nonce ad message t, tag-length key nonce ad message) in
       let e = read-anywhere (length frame) big P T in (
-        h .answer ∙ ap (λ (x : Reading). x .answer) e,
-        h .buffer ∙ ap (λ (x : Reading). x .buffer) e ∙ rw k,
+        h .answer ∙ ap (λ (x : Reading). answerOf x) e,
+        h .buffer ∙ ap (λ (x : Reading). x .verdict .buffer) e ∙ rw k,
       )

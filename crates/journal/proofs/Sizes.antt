@@ -8,7 +8,8 @@ use Rattle.morus.specs.Seal.{seal, sealTag}
 use Rattle.morus.proofs.Laws.{seal-length, tag-length}
 use Rattle.hex.specs.Hex.{hexOf}
 use Rattle.hex.proofs.Index.{hex-length}
-use Rattle.journal.specs.Line.{newline, frameOf, lineOf, lineLength}
+use Rattle.run.specs.Line.{newline}
+use Rattle.journal.specs.Line.{frameOf, lineOf, lineLength}
 use Rattle.journal.proofs.Frame.{frame-length}
 
 module _ (key nonce ad message : List ℕ) (nonce16 : length nonce ≡ 16) where

@@ -1,10 +1,11 @@
 -- A list of tests, each with the number that it gives where it fails.
-use Prim.Native.Nat.{ℕ, suc, _≤_}
+use Prim.Native.Nat.{ℕ, zero, suc, _≤_, _<_}
 use mathlib.Core.Path.{_≡_, refl}
-use mathlib.Core.Bool.{Bool, true, false, cond}
+use mathlib.Core.Bool.{Bool, true, false, cond, not, _&&_}
 use mathlib.Core.List.{List, [], _∷_, _++_}
 use native.Mathlib.Omega.{arith}
-use lib.Dec.{T, leb, leb→le, ltb, ltb→lt}
+use lib.Dec.{T, leb, leb→le, ltb, ltb→lt, eqb}
+use borrow.Author.Tests.{eq-eqb}
 use Rattle.journal.specs.Tests.{Test, firstFailing}
 
 -- a test passes that cannot fail
@@ -20,33 +21,50 @@ abbrev pub AllPass : List Test → Type 0
 AllPass [] = Unit {0}
 AllPass (t ∷ ts) = (t .0 ≡ true) × AllPass ts
 
--- each number is at least 1
-abbrev pub Numbered : List Test → Type 0
-Numbered [] = Unit {0}
-Numbered (t ∷ ts) = T (ltb 0 (t .1)) × Numbered ts
+-- each number is as p says: where the rows are written out this computes, however many they are
+abbrev pub numbers : (ℕ → Bool) → List Test → Bool
+numbers p [] = true
+numbers p (t ∷ ts) = p (t .1) && numbers p ts
 
--- each number is at most k
-abbrev pub AtMost : ℕ → List Test → Type 0
-AtMost k [] = Unit {0}
-AtMost k (t ∷ ts) = T (leb (t .1) k) × AtMost k ts
+both : (a b : Bool) → T (a && b) → T a × T b
+both true b h = (tt, h)
+both false b h = absurd h
 
-pub first-le : (k : ℕ) (ts : List Test) → AtMost k ts → firstFailing ts ≤ k
+-- the number of a test that fails is as p says
+pub first-is : (p : ℕ → Bool) (ts : List Test) → T (numbers p ts) → (firstFailing ts ≡ 0 → ⊥) → T (p (firstFailing ts))
 unfolding firstFailing
-first-le k [] h = omega arith
-first-le k (t ∷ ts) h = go (t .0) (first-le k ts (h .1))
+first-is p [] h n = absurd (n refl)
+first-is p (t ∷ ts) h n = go (t .0) (first-is p ts (both (p (t .1)) (numbers p ts) h .1)) n
   where
-    go : (b : Bool) → firstFailing ts ≤ k → cond b (firstFailing ts) (t .1) ≤ k
-    go true ih = ih
-    go false ih = leb→le (t .1) k (h .0)
+    go : (b : Bool) → ((firstFailing ts ≡ 0 → ⊥) → T (p (firstFailing ts))) → (cond b (firstFailing ts) (t .1) ≡ 0 → ⊥) → T (p (cond b (firstFailing ts) (t .1)))
+    go true ih n = ih n
+    go false ih n = both (p (t .1)) (numbers p ts) h .0
 
-pub zero-pass : (ts : List Test) → Numbered ts → firstFailing ts ≡ 0 → AllPass ts
+pub first-le : (k : ℕ) (ts : List Test) → T (numbers (λ n. leb n k) ts) → firstFailing ts ≤ k
+first-le k ts h = go (firstFailing ts) (first-is (λ n. leb n k) ts h)
+  where
+    go : (n : ℕ) → ((n ≡ 0 → ⊥) → T (leb n k)) → n ≤ k
+    go zero f = omega arith
+    go (suc n) f = leb→le (suc n) k (f (omega arith))
+
+-- a number that no row has
+pub first-not : (k : ℕ) (ts : List Test) → 0 < k → T (numbers (λ n. not (eqb n k)) ts) → firstFailing ts ≡ k → ⊥
+first-not k ts l h e = clash (rw (eq-eqb (firstFailing ts) k e) at (first-is (λ n. not (eqb n k)) ts h (omega arith)))
+  where
+    clash : T false → ⊥
+    clash x = x
+
+pub zero-pass : (ts : List Test) → T (numbers (ltb 0) ts) → firstFailing ts ≡ 0 → AllPass ts
 unfolding firstFailing
 zero-pass [] h e = tt
-zero-pass (t ∷ ts) h e = go (t .0) (zero-pass ts (h .1)) e
+zero-pass (t ∷ ts) h e = go (t .0) (zero-pass ts (b .1)) e
   where
-    go : (b : Bool) → (firstFailing ts ≡ 0 → AllPass ts) → cond b (firstFailing ts) (t .1) ≡ 0 → (b ≡ true) × AllPass ts
+    b : T (ltb 0 (t .1)) × T (numbers (ltb 0) ts)
+    b = both (ltb 0 (t .1)) (numbers (ltb 0) ts) h
+
+    go : (c : Bool) → (firstFailing ts ≡ 0 → AllPass ts) → cond c (firstFailing ts) (t .1) ≡ 0 → (c ≡ true) × AllPass ts
     go true ih e = (refl, ih e)
-    go false ih e = absurd (omega (arith, ltb→lt 0 (t .1) (h .0)))
+    go false ih e = absurd (omega (arith, ltb→lt 0 (t .1) (b .0)))
 
 pub pass-zero : (ts : List Test) → AllPass ts → firstFailing ts ≡ 0
 unfolding firstFailing

@@ -11,7 +11,8 @@ use Rattle.hex.specs.Promise.{written, WrittenOf}
 use Rattle.hex.specs.declared.answer.Written.{Written}
 use Rattle.hex.specs.declared.answer.Written.the-variants as Report
 use Rattle.hex.proofs.Index.{hex-length}
-use Rattle.journal.specs.Line.{newline, frameOf, lineOf, lineLength}
+use Rattle.run.specs.Line.{newline}
+use Rattle.journal.specs.Line.{frameOf, lineOf, lineLength}
 use Rattle.journal.specs.Tests.{firstFailing}
 use Rattle.journal.specs.Writer.{writerTests, writerNumber, writing, writeInto}
 use Rattle.journal.specs.Promise.{LineWritten}

@@ -3,6 +3,5 @@ pub mod Line
 pub mod Tests
 pub mod Writer
 pub mod Reader
-pub mod Run
 pub mod Claims
 pub mod Promise

@@ -3,15 +3,36 @@ use Prim.Native.Nat.{ℕ}
 use mathlib.Core.Path.{_≡_}
 use mathlib.Core.List.{List}
 use lib.ListN.{length}
+use Rattle.run.specs.Read.{Verdict, Reading}
+use Rattle.journal.specs.declared.Verdict as declared
 use Rattle.journal.specs.declared.Answer.{Answer}
 use Rattle.journal.specs.declared.Line.{Line}
 use Rattle.journal.specs.Writer.{writeInto}
-use Rattle.journal.specs.Reader.{readAt}
+use Rattle.journal.specs.Reader.{readText, readAt}
 
 pub record LineWritten (key nonce ad message line : List ℕ) (r : Line) (line' : List ℕ) : Type 0 where
   pub report : r ≡ writeInto key nonce ad message line .report
   pub buffer : line' ≡ writeInto key nonce ad message line .buffer
 
+-- ---- reading: what is handed back beside the buffer
+
+abbrev pub saidOf : Verdict → declared.Verdict
+saidOf v = record { number = v .number; n = v .n; m = v .m }
+
+abbrev pub placed : declared.Verdict → (next : ℕ) → Answer
+placed v next = record { number = v .number; next = next; n = v .n; m = v .m }
+
+abbrev pub answerOf : Reading → Answer
+answerOf x = placed (saidOf (x .verdict)) (x .next)
+
+-- what a call gave is the verdict v
+pub record Gives (v : Verdict) (r : declared.Verdict) (frame' : List ℕ) : Type 0 where
+  pub said : r ≡ saidOf v
+  pub buffer : frame' ≡ v .buffer
+
+abbrev pub TextRead : (text key frame : List ℕ) → declared.Verdict → (frame' : List ℕ) → Type 0
+TextRead text key frame r frame' = Gives (readText key text (length frame)) r frame'
+
 pub record LineRead (journal : List ℕ) (place : ℕ) (key frame : List ℕ) (r : Answer) (frame' : List ℕ) : Type 0 where
-  pub answer : r ≡ readAt key journal place (length frame) .answer
-  pub buffer : frame' ≡ readAt key journal place (length frame) .buffer
+  pub answer : r ≡ answerOf (readAt key journal place (length frame))
+  pub buffer : frame' ≡ readAt key journal place (length frame) .verdict .buffer

@@ -5,6 +5,7 @@ mod reader;
 mod writer;
 
 pub use reader::read_line;
+pub use reader::read_text;
 pub use writer::write_line;
 
 // What writing reports: a number, and the line's length.
@@ -13,7 +14,14 @@ pub struct Line {
     pub length: usize,
 }
 
-// What reading answers: a number, the next place, and how many bytes of data and of message there are.
+// What is said of a line's text: a number, and how many bytes of data and of message there are.
+pub struct Verdict {
+    pub number: u8,
+    pub n: usize,
+    pub m: usize,
+}
+
+// What reading at a place answers: a number, the next place, and how many bytes of data and of message there are.
 pub struct Answer {
     pub number: u8,
     pub next: usize,

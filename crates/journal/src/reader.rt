@@ -1,5 +1,6 @@
 // Reading a line of the journal into a lent frame buffer.
 use crate::Answer;
+use crate::Verdict;
 use crate::bytes::copy;
 use crate::bytes::fill;
 use crate::bytes::sixteen;
@@ -10,22 +11,18 @@ use morus::Morus;
 ghost use mathlib.Core.Path.{_≡_};
 ghost use Prim.Native.Nat.{_+_, _≤_};
 ghost use lib.ListN.{length, getD, take, drop};
-ghost use Rattle.journal.specs.Line.{newlineAt};
+ghost use Rattle.run.specs.Line.{newlineAt};
+ghost use Rattle.run.specs.Read.{refused};
 ghost use Rattle.journal.specs.Tests.{firstFailing};
-ghost use Rattle.journal.specs.Reader.{Gives, refused, frameTests, openFrame, readFrame, readText};
-ghost use Rattle.journal.specs.Promise.{LineRead};
+ghost use Rattle.journal.specs.Reader.{frameTests, openFrame, readFrame};
+ghost use Rattle.journal.specs.Promise.{placed, Gives, TextRead, LineRead};
 
-// The answer with `number` and the whole buffer 0xaa: where every refusal ends.
-fn refuse(number: u8, next: usize, frame: &mut [u8]) -> Answer
-    ensures { λ r. ⌜ Gives (refused number next (length (now (frame .entry)))) r (now (frame .exit)) ⌝ }
+// The verdict with `number` and the whole buffer 0xaa: where every refusal ends.
+fn refuse(number: u8, frame: &mut [u8]) -> Verdict
+    ensures { λ r. ⌜ Gives (refused number (length (now (frame .entry)))) r (now (frame .exit)) ⌝ }
 {
     fill(frame, 0);
-    Answer {
-        number,
-        next,
-        n: 0,
-        m: 0,
-    }
+    Verdict { number, n: 0, m: 0 }
 }
 
 // The place of the first newline at or after `place`, or the journal's length where there is none.
@@ -67,9 +64,9 @@ fn frame_number(frame: &[u8]) -> u8
 }
 
 // The frame at the buffer's front, whose tests have passed, is opened where it stands.
-fn open_frame(count: usize, next: usize, key: Key, frame: &mut [u8]) -> Answer
+fn open_frame(count: usize, key: Key, frame: &mut [u8]) -> Verdict
     requires { ⌜ (count ≤ 353) × (353 ≤ length (now frame)) × (33 + getD (now frame) 16 0 ≤ count) × (getD (now frame) 16 0 ≤ 64) ⌝ }
-    ensures { λ r. ⌜ Gives (openFrame key (take count (now (frame .entry))) next (length (now (frame .entry)))) r (now (frame .exit)) ⌝ }
+    ensures { λ r. ⌜ Gives (openFrame key (take count (now (frame .entry))) (length (now (frame .entry)))) r (now (frame .exit)) ⌝ }
 {
     let n = frame[16] as usize;
     let start = 17 + n;
@@ -81,43 +78,56 @@ fn open_frame(count: usize, next: usize, key: Key, frame: &mut [u8]) -> Answer
     copy(&mut data, 0, frame, 17, n);
     let number = Morus::new(nonce, key).decrypt_in_place(&mut frame[start..end], tag, &data[..n]);
     if number != numbers::DONE {
-        return refuse(number, next, frame);
+        return refuse(number, frame);
     }
     fill(frame, count);
-    Answer {
+    Verdict {
         number: numbers::DONE,
-        next,
         n,
         m: end - start,
     }
 }
 
-// The answer for the frame of `count` bytes at the buffer's front.
-fn read_frame(count: usize, next: usize, key: Key, frame: &mut [u8]) -> Answer
+// The verdict on the frame of `count` bytes at the buffer's front.
+fn read_frame(count: usize, key: Key, frame: &mut [u8]) -> Verdict
     requires { ⌜ (count ≤ 353) × (353 ≤ length (now frame)) ⌝ }
-    ensures { λ r. ⌜ Gives (readFrame key (take count (now (frame .entry))) next (length (now (frame .entry)))) r (now (frame .exit)) ⌝ }
+    ensures { λ r. ⌜ Gives (readFrame key (take count (now (frame .entry))) (length (now (frame .entry)))) r (now (frame .exit)) ⌝ }
 {
     let number = frame_number(&frame[..count]);
     if number != numbers::DONE {
-        return refuse(number, next, frame);
+        return refuse(number, frame);
     }
-    open_frame(count, next, key, frame)
+    open_frame(count, key, frame)
 }
 
-// The answer for a line's text. Its digits are read straight into the buffer.
-fn read_text(text: &[u8], next: usize, key: Key, frame: &mut [u8]) -> Answer
-    requires { ⌜ 353 ≤ length (now frame) ⌝ }
-    ensures { λ r. ⌜ Gives (readText key (now (text .entry)) next (length (now (frame .entry)))) r (now (frame .exit)) ⌝ }
+// The verdict on a line's text, which stands without its newline. Its digits are read straight into the lent buffer.
+pub fn read_text(text: &[u8], key: Key, frame: &mut [u8]) -> Verdict
+    ensures { λ r. ⌜ TextRead (now (text .entry)) key (now (frame .entry)) r (now (frame .exit)) ⌝ }
 {
+    if frame.len() < numbers::MOST_FRAME {
+        return refuse(numbers::BUFFER_TOO_SMALL, frame);
+    }
     if numbers::MOST_DIGITS < text.len() {
-        return refuse(numbers::LINE_TOO_LONG, next, frame);
+        return refuse(numbers::LINE_TOO_LONG, frame);
     }
     match hex::read(text, frame) {
-        Read::Bytes(count) => read_frame(count, next, key, frame),
-        Read::NotDigit => refuse(numbers::NOT_DIGIT, next, frame),
-        Read::Odd => refuse(numbers::ODD, next, frame),
+        Read::Bytes(count) => read_frame(count, key, frame),
+        Read::NotDigit => refuse(numbers::NOT_DIGIT, frame),
+        Read::Odd => refuse(numbers::ODD, frame),
         // Never: a text of 706 digits is 353 bytes.
-        Read::NoRoom => refuse(numbers::BUFFER_TOO_SMALL, next, frame),
+        Read::NoRoom => refuse(numbers::BUFFER_TOO_SMALL, frame),
+    }
+}
+
+// A verdict with the place to go on from.
+fn answer(v: Verdict, next: usize) -> Answer
+    ensures { λ r. ⌜ r ≡ placed v next ⌝ }
+{
+    Answer {
+        number: v.number,
+        next,
+        n: v.n,
+        m: v.m,
     }
 }
 
@@ -126,17 +136,17 @@ pub fn read_line(journal: &[u8], place: usize, key: Key, frame: &mut [u8]) -> An
     ensures { λ r. ⌜ LineRead (now (journal .entry)) place key (now (frame .entry)) r (now (frame .exit)) ⌝ }
 {
     if frame.len() < numbers::MOST_FRAME {
-        return refuse(numbers::BUFFER_TOO_SMALL, place, frame);
+        return answer(refuse(numbers::BUFFER_TOO_SMALL, frame), place);
     }
     if journal.len() < place {
-        return refuse(numbers::PLACE_BEYOND, place, frame);
+        return answer(refuse(numbers::PLACE_BEYOND, frame), place);
     }
     if place == journal.len() {
-        return refuse(numbers::END, place, frame);
+        return answer(refuse(numbers::END, frame), place);
     }
     let end = find_newline(journal, place);
     if end == journal.len() {
-        return refuse(numbers::NO_NEWLINE, end, frame);
+        return answer(refuse(numbers::NO_NEWLINE, frame), end);
     }
-    read_text(&journal[place..end], end + 1, key, frame)
+    answer(read_text(&journal[place..end], key, frame), end + 1)
 }

@@ -9,8 +9,9 @@ use lib.ListN.{length, take}
 use lib.Seq.{take-append-seam}
 use lib.Dec.{leb, eqb}
 use borrow.Author.Tests.{le-leb, leb-true, leb-false}
-use Rattle.journal.specs.Reader.{Reading, readAt}
-use Rattle.journal.specs.Run.{Entry, entry, runFrom, run}
+use Rattle.run.specs.Read.{Reading}
+use Rattle.run.specs.Run.{Entry, entry, run}
+use Rattle.journal.specs.Reader.{readAt, runFrom}
 use Rattle.listing.specs.declared.report.Piece.{Piece}
 use Rattle.listing.specs.Text.{answerText}
 use Rattle.listing.specs.KeyLine.{goodKey, keyOf, journalOf}
@@ -54,17 +55,17 @@ module _ (key j : List ℕ) (given : ℕ) where
       → Left (answersFrom key j) given p (length j) (rest room (answersFrom key j p))
   unfolding rest
   behind zero p room h l = absurd (omega arith)
-  behind (suc k) p room h l = rw (step key j p h .splits) (go (leb (length (answerText (entry p x))) room) (eqb (x .answer .number) 14) refl (behind k (x .answer .next)))
+  behind (suc k) p room h l = rw (step key j p h .splits) (go (leb (length (answerText (entry p x))) room) (eqb (x .verdict .number) 14) refl (behind k (x .next)))
     where
       x : Reading
       x = readAt key j p frameSize
 
       tail : Bool → List Part
-      tail e = cond e [] (answersFrom key j (x .answer .next))
+      tail e = cond e [] (answersFrom key j (x .next))
 
-      go : (b e : Bool) → eqb (x .answer .number) 14 ≡ e
-          → ((room : ℕ) → x .answer .next ≤ length j → length j < k + x .answer .next → none (rest room (answersFrom key j (x .answer .next))) ≡ false
-          → Left (answersFrom key j) given (x .answer .next) (length j) (rest room (answersFrom key j (x .answer .next))))
+      go : (b e : Bool) → eqb (x .verdict .number) 14 ≡ e
+          → ((room : ℕ) → x .next ≤ length j → length j < k + x .next → none (rest room (answersFrom key j (x .next))) ≡ false
+          → Left (answersFrom key j) given (x .next) (length j) (rest room (answersFrom key j (x .next))))
           → none (cond b (rest (room - length (answerText (entry p x))) (tail e)) (part (entry p x) ∷ tail e)) ≡ false
           → Left (answersFrom key j) given p (length j) (cond b (rest (room - length (answerText (entry p x))) (tail e)) (part (entry p x) ∷ tail e))
       go false e q ih f = record { same = step key j p h .splits ∙ rw q; later = omega arith; within = h }

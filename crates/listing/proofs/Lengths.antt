@@ -8,9 +8,9 @@ use lib.ListN.{length, length-append, length-take}
 use lib.Dec.{ltb, eqb}
 use Rattle.hex.specs.Hex.{hexOf}
 use Rattle.hex.proofs.Index.{hex-length}
-use Rattle.journal.specs.Line.{newline}
+use Rattle.run.specs.Line.{newline}
 use Rattle.journal.specs.Reader.{readAt}
-use Rattle.journal.specs.Run.{entry}
+use Rattle.run.specs.Run.{entry}
 use Rattle.listing.specs.Decimal.{decimal}
 use Rattle.listing.specs.Text.{space, word, numbers, messageIn, shown, answerText}
 use Rattle.listing.proofs.Decimal.{decimal-length, decimal-fits}
@@ -45,17 +45,17 @@ pub answer-length : (key j : List ℕ) (place size : ℕ) → place ≤ 60000 �
 unfolding answerText
 answer-length key j place size h =
     let x = readAt key j place size in
-    let a = x .answer in
+    let a = x .verdict in
     let s = read-small key j place size in
     let t = numbers place (a .number) (a .n) (a .m) in
-    let u = shown (a .number) (a .n) (a .m) (x .buffer) in
+    let u = shown (a .number) (a .n) (a .m) (x .verdict .buffer) in
     omega (
       arith,
       s .m,
       length-append (t ++ u) (newline ∷ []),
       length-append t u,
       numbers-length place (a .number) (a .n) (a .m),
-      shown-length (a .number) (a .n) (a .m) (x .buffer),
+      shown-length (a .number) (a .n) (a .m) (x .verdict .buffer),
       decimal-length 4 place (omega arith),
       decimal-length 1 (a .number) (omega (arith, s .number)),
       decimal-length 1 (a .n) (omega (arith, s .n)),

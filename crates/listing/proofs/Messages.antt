@@ -10,9 +10,10 @@ use lib.Dec.{ltb}
 use Rattle.morus.specs.Seal.{sealTag}
 use Rattle.hex.specs.Hex.{hexOf}
 use Rattle.journal.specs.Frame.{frameWith}
-use Rattle.journal.specs.Line.{newline, Made, lineAt}
+use Rattle.run.specs.Line.{newline, lineAt}
+use Rattle.run.specs.Run.{entry}
+use Rattle.journal.specs.Line.{Made}
 use Rattle.journal.specs.Reader.{opened, readAt}
-use Rattle.journal.specs.Run.{entry}
 use Rattle.journal.specs.Claims.{handed}
 use Rattle.journal.proofs.Opened.{hands-out}
 use Rattle.listing.specs.Text.{space, numbers, messageIn, shown, answerText}

@@ -7,8 +7,9 @@ use native.Mathlib.Omega.{arith}
 use lib.ListN.{length, drop, length-append}
 use lib.Dec.{leb, eqb}
 use borrow.Author.Tests.{le-leb, leb-true}
-use Rattle.journal.specs.Reader.{Reading, readAt}
-use Rattle.journal.specs.Run.{entry}
+use Rattle.run.specs.Read.{Reading}
+use Rattle.run.specs.Run.{entry}
+use Rattle.journal.specs.Reader.{readAt}
 use Rattle.listing.specs.declared.report.Piece.{Piece}
 use Rattle.listing.specs.Text.{answerText}
 use Rattle.listing.specs.KeyLine.{goodKey, keyOf, journalOf}
@@ -25,7 +26,7 @@ moves : (key j : List ℕ) (p room : ℕ) → 529 ≤ room → length j ≤ most
     → (p < firstPlace p (rest room (answersFrom key j p))) × (firstPlace p (rest room (answersFrom key j p)) ≤ length j)
 unfolding rest
 moves key j p room big small h =
-    rw (step key j p h .splits, le-leb (length (answerText (entry p x))) room (omega (arith, answer-length key j p frameSize (omega arith)))) (go (eqb (x .answer .number) 14) refl)
+    rw (step key j p h .splits, le-leb (length (answerText (entry p x))) room (omega (arith, answer-length key j p frameSize (omega arith)))) (go (eqb (x .verdict .number) 14) refl)
   where
     x : Reading
     x = readAt key j p frameSize
@@ -33,12 +34,12 @@ moves key j p room big small h =
     left : ℕ
     left = room - length (answerText (entry p x))
 
-    go : (e : Bool) → eqb (x .answer .number) 14 ≡ e → none (rest left (cond e [] (answersFrom key j (x .answer .next)))) ≡ false
-        → (p < firstPlace p (rest left (cond e [] (answersFrom key j (x .answer .next))))) × (firstPlace p (rest left (cond e [] (answersFrom key j (x .answer .next)))) ≤ length j)
+    go : (e : Bool) → eqb (x .verdict .number) 14 ≡ e → none (rest left (cond e [] (answersFrom key j (x .next)))) ≡ false
+        → (p < firstPlace p (rest left (cond e [] (answersFrom key j (x .next))))) × (firstPlace p (rest left (cond e [] (answersFrom key j (x .next)))) ≤ length j)
     go true q f = clash f
     go false q f =
         let o = step key j p h .onward q in
-        let r = behind key j p (suc (length j)) (x .answer .next) left (o .1) (omega arith) f in
+        let r = behind key j p (suc (length j)) (x .next) left (o .1) (omega arith) f in
         (omega (arith, o .0, r .later), r .within)
 
 module _ (input : List ℕ) (place room : ℕ) (big : 529 ≤ room) (inside : place ≤ length (journalOf input)) where

@@ -16,7 +16,7 @@ use Rattle.listing.proofs.Small.{Small, read-small}
 
 module _ {j key frame frame' : List ℕ} {place : ℕ} {r : Answer} (h : LineRead j place key frame r frame') where
   -- the numbers of the answer are small
-  pub answer-small : Small (record { answer = r; buffer = frame' })
+  pub answer-small : Small (record { number = r .number; n = r .n; m = r .m; buffer = frame' })
   answer-small =
       let s = read-small key j place (length frame) in
       let e = h .answer in
@@ -30,7 +30,8 @@ module _ {j key frame frame' : List ℕ} {place : ℕ} {r : Answer} (h : LineRea
       → ShownAs place (readAt key j place (length frame)) text (record { length = c; next = r .next; end = eqb (r .number) 14 }) v
   unfolding answerText
   shows p q s = record {
-    put = rw (← h .answer, ← h .buffer) (put-put (put-put p q (omega arith)) s (omega arith));
+    put = rw (← ap (λ (x : Answer). x .number) (h .answer), ← ap (λ (x : Answer). x .n) (h .answer), ← ap (λ (x : Answer). x .m) (h .answer), ← h .buffer)
+        (put-put (put-put p q (omega arith)) s (omega arith));
     next = ap (λ (x : Answer). x .next) (h .answer);
     end = ap (λ (x : Answer). eqb (x .number) 14) (h .answer);
   }

@@ -9,10 +9,13 @@ use native.Mathlib.Nat.{eq-or-lt-of-le}
 use lib.ListN.{length}
 use lib.Dec.{eqb}
 use borrow.Author.Tests.{le-leb, ne-eqb, eqb-false}
-use Rattle.journal.specs.Reader.{Reading, refused, readAt}
-use Rattle.journal.specs.Run.{entry, runFrom}
-use Rattle.journal.proofs.Places.{at-end}
-use Rattle.journal.proofs.Progress.{moves, fuel}
+use Rattle.run.specs.Read.{Reading, refused}
+use Rattle.run.specs.Run as Run
+use Rattle.run.specs.Run.{entry}
+use Rattle.run.proofs.Rows.{at-end}
+use Rattle.run.proofs.Progress.{moves, fuel}
+use Rattle.journal.specs.Reader.{readText, readAt, runFrom}
+use Rattle.journal.proofs.Rows.{not-end}
 use Rattle.listing.specs.Listing.{frameSize}
 use Rattle.listing.specs.Pieces.{part, answersFrom}
 
@@ -22,26 +25,26 @@ module _ (key j : List ℕ) where
   inside p h = rw (le-leb p (length j) h)
 
   pub record Step (p : ℕ) : Type 0 where
-    pub splits : answersFrom key j p ≡ part (entry p (readAt key j p frameSize)) ∷ cond (eqb (readAt key j p frameSize .answer .number) 14) [] (answersFrom key j (readAt key j p frameSize .answer .next))
-    pub onward : eqb (readAt key j p frameSize .answer .number) 14 ≡ false → (p < readAt key j p frameSize .answer .next) × (readAt key j p frameSize .answer .next ≤ length j)
+    pub splits : answersFrom key j p ≡ part (entry p (readAt key j p frameSize)) ∷ cond (eqb (readAt key j p frameSize .verdict .number) 14) [] (answersFrom key j (readAt key j p frameSize .next))
+    pub onward : eqb (readAt key j p frameSize .verdict .number) 14 ≡ false → (p < readAt key j p frameSize .next) × (readAt key j p frameSize .next ≤ length j)
 
   pub step : (p : ℕ) → p ≤ length j → Step p
-  unfolding runFrom refused
+  unfolding Run.runFrom refused
   step p h = go (eq-or-lt-of-le h)
     where
       go : (p ≡ length j) ⊎ (p < length j) → Step p
       go (inl e) =
-          let z = at-end key j p frameSize (omega arith) e in
+          let z = at-end (readText key) j p frameSize (omega arith) e in
           record {
             splits = inside p h ∙ simp z;
-            onward = λ f. absurd (eqb-false (readAt key j p frameSize .answer .number) 14 f (ap (λ (x : Reading). x .answer .number) z));
+            onward = λ f. absurd (eqb-false (readAt key j p frameSize .verdict .number) 14 f (ap (λ (x : Reading). x .verdict .number) z));
           }
       go (inr l) =
-          let m = moves key frameSize (omega arith) j p l in
+          let m = moves (readText key) (not-end key) frameSize (omega arith) j p l in
           let x = readAt key j p frameSize in
           record {
             splits =
                 inside p h
-                ∙ rw (ne-eqb (x .answer .number) 14 (m .not-end), inside (x .answer .next) (m .within), fuel key frameSize (omega arith) j (length j) (suc (length j)) (x .answer .next) (m .within) (omega (arith, m)) (omega (arith, m)));
+                ∙ rw (ne-eqb (x .verdict .number) 14 (m .not-end), inside (x .next) (m .within), fuel (readText key) (not-end key) frameSize (omega arith) j (length j) (suc (length j)) (x .next) (m .within) (omega (arith, m)) (omega (arith, m)));
             onward = λ f. (m .ahead, m .within);
           }

@@ -5,7 +5,7 @@ use mathlib.Core.List.{List}
 use lib.ListN.{length, getD, take, drop, replicate}
 use lib.Dec.{leb, eqb}
 use Rattle.hex.specs.Hex.{allDigits, unhex}
-use Rattle.journal.specs.Line.{newline}
+use Rattle.run.specs.Line.{newline}
 use Rattle.listing.specs.declared.key.KeyLine.{KeyLine}
 
 unfoldable pub goodKey : (input : List ℕ) → Bool

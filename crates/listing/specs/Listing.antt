@@ -4,8 +4,9 @@ use mathlib.Core.Bool.{cond}
 use mathlib.Core.List.{List, [], _∷_, _++_}
 use lib.ListN.{length}
 use lib.Dec.{leb}
-use Rattle.journal.specs.Line.{newline}
-use Rattle.journal.specs.Run.{Entry, run}
+use Rattle.run.specs.Line.{newline}
+use Rattle.run.specs.Run.{Entry}
+use Rattle.journal.specs.Reader.{run}
 use Rattle.listing.specs.Text.{answerText}
 use Rattle.listing.specs.KeyLine.{goodKey, keyOf, journalOf}
 

@@ -4,7 +4,8 @@ use mathlib.Core.Bool.{Bool, true, false, cond}
 use mathlib.Core.List.{List, [], _∷_, _++_, map}
 use lib.ListN.{length}
 use lib.Dec.{leb}
-use Rattle.journal.specs.Run.{Entry, runFrom}
+use Rattle.run.specs.Run.{Entry}
+use Rattle.journal.specs.Reader.{runFrom}
 use Rattle.listing.specs.Text.{answerText}
 use Rattle.listing.specs.KeyLine.{goodKey, keyOf, journalOf}
 use Rattle.listing.specs.Listing.{badKey, tooBig, mostJournal, frameSize}

@@ -4,8 +4,8 @@ use mathlib.Core.Path.{_≡_}
 use mathlib.Core.List.{List, _++_}
 use lib.ListN.{length, drop}
 use lib.Dec.{eqb}
-use Rattle.journal.specs.Reader.{Reading}
-use Rattle.journal.specs.Run.{entry}
+use Rattle.run.specs.Read.{Reading}
+use Rattle.run.specs.Run.{entry}
 use Rattle.listing.specs.Text.{answerText}
 use Rattle.listing.specs.Put.{Put}
 use Rattle.listing.specs.declared.gather.Shown.{Shown}
@@ -25,5 +25,5 @@ pub record PieceFilled (input : List ℕ) (place : ℕ) (out : List ℕ) (r : Pi
 -- the text of one answer, at the front of a buffer
 pub record ShownAs (place : ℕ) (x : Reading) (text : List ℕ) (r : Shown) (text' : List ℕ) : Type 0 where
   pub put : Put text 0 (answerText (entry place x)) (r .length) text'
-  pub next : r .next ≡ x .answer .next
-  pub end : r .end ≡ eqb (x .answer .number) 14
+  pub next : r .next ≡ x .next
+  pub end : r .end ≡ eqb (x .verdict .number) 14

@@ -6,8 +6,8 @@ use mathlib.Core.List.{List, [], _∷_, _++_}
 use lib.ListN.{take, drop}
 use lib.Dec.{ltb, eqb}
 use Rattle.hex.specs.Hex.{hexOf}
-use Rattle.journal.specs.Line.{newline}
-use Rattle.journal.specs.Run.{Entry}
+use Rattle.run.specs.Line.{newline}
+use Rattle.run.specs.Run.{Entry}
 use Rattle.listing.specs.Decimal.{decimal}
 
 abbrev pub space : ℕ
@@ -31,6 +31,6 @@ shown number n m frame = cond (eqb number 0 && ltb 0 m) (space ∷ hexOf (messag
 
 unfoldable pub answerText : Entry → List ℕ
 answerText e =
-    numbers (e .place) (e .reading .answer .number) (e .reading .answer .n) (e .reading .answer .m)
-    ++ shown (e .reading .answer .number) (e .reading .answer .n) (e .reading .answer .m) (e .reading .buffer)
+    numbers (e .place) (e .reading .verdict .number) (e .reading .verdict .n) (e .reading .verdict .m)
+    ++ shown (e .reading .verdict .number) (e .reading .verdict .n) (e .reading .verdict .m) (e .reading .verdict .buffer)
     ++ (newline ∷ [])

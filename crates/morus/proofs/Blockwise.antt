@@ -6,13 +6,14 @@ use native.Mathlib.Nat.{zero-min, suc-min-suc, min-zero}
 use native.Mathlib.Omega.{arith}
 use lib.ListN.{length, take, drop, length-drop, length-append, length-take}
 use lib.Seq.{take-all, paste, length-paste, take-paste, drop-paste, drop-drop}
-use Rattle.morus.specs.declared.state.State.{State}
-use Rattle.morus.specs.Bytes.{padded, xorBytes}
-use Rattle.morus.specs.Blocks.{stream, sealing, opening, blocks, bytesN, stateN, bytesBy, stateBy}
-use Rattle.morus.proofs.Parts.{padded-cons}
-use Rattle.morus.proofs.Lanes.{lane-padded}
-use Rattle.morus.proofs.Xor.{length-xor}
-use Rattle.morus.proofs.Streams.{length-stream, part-out}
+use Rattle.state.specs.declared.State.{State}
+use Rattle.state.specs.Bytes.{padded, xorBytes}
+use Rattle.state.specs.Block.{stream, sealing, opening}
+use Rattle.morus.specs.Blocks.{blocks, bytesN, stateN, bytesBy, stateBy}
+use Rattle.state.proofs.Parts.{padded-cons}
+use Rattle.state.proofs.LaneBytes.{lane-padded}
+use Rattle.state.proofs.Xor.{length-xor}
+use Rattle.state.proofs.Streams.{length-stream, part-out}
 
 drop-min : (n : ℕ) (m : List ℕ) → drop (min (length m) n) m ≡ drop n m
 drop-min zero m = rw min-zero
@@ -113,39 +114,35 @@ taken {s₀} {s} {m} {i} v h =
     let z : length (drop i m) ≡ 0 = rw length-drop (omega arith) in
     rw (state-none sealing s (drop i m) z) at (v .state)
 
--- What the code does to n bytes of b, a whole block or all that is left.
-padded-cut : (k : ℕ) (b : List ℕ) → padded k (take (min (length b) k) b) ≡ padded k b
-unfolding padded
-padded-cut zero b = refl
-padded-cut (suc k) [] = rw zero-min
-padded-cut (suc k) (a ∷ b) =
-    rw suc-min-suc
-    (padded-cons k a (take (min (length b) k) b) ∙ ap (λ (l : List ℕ). a ∷ l) (padded-cut k b) ∙ sym (padded-cons k a b))
-
+-- What the code does to the first block of b, or to all that is left.
 padded-front : (k : ℕ) (b : List ℕ) → length b ≤ k → take (length b) (padded k b) ≡ b
 padded-front k [] h = refl
 padded-front zero (a ∷ b) h = absurd (omega arith)
 padded-front (suc k) (a ∷ b) h = rw (padded-cons k a b, padded-front k b (omega arith))
 
-module _ (s : State) (b : List ℕ) (n : ℕ) (e : n ≡ min (length b) 32) where
-  -- their block, with zeros behind them, is that of b
-  block-same : padded 32 (take n b) ≡ padded 32 b
-  block-same = rw e (padded-cut 32 b)
-
+module _ (s : State) (b : List ℕ) {p : List ℕ} (ep : p ≡ padded 32 b) where
   -- sealed
-  sealed-state : {p : List ℕ} {s' : State} → p ≡ padded 32 (take n b) → s' ≡ sealing s p → s' ≡ sealing s b
+  sealed-state : {s' : State} → s' ≡ sealing s p → s' ≡ sealing s b
   unfolding sealing
-  sealed-state ep es = rw (es, ep, block-same, lane-padded)
+  sealed-state es = rw (es, ep, lane-padded)
 
-  sealed-bytes : {p d : List ℕ} → p ≡ padded 32 (take n b) → d ≡ xorBytes p (stream s) → take n d ≡ xorBytes b (stream s)
-  sealed-bytes ep ed = rw (ed, ep, block-same) (part-out b n e s)
+  sealed-bytes : {d : List ℕ} (n : ℕ) → n ≡ min (length b) 32 → d ≡ xorBytes p (stream s) → take n d ≡ xorBytes b (stream s)
+  sealed-bytes n e ed = rw (ed, ep) (part-out b n e s)
 
--- a whole block opened: what is xored of its block is what is xored of b
-pub whole-out : (s : State) (b : List ℕ) {p : List ℕ} → 32 ≤ length b → p ≡ padded 32 (take 32 b) → xorBytes p (stream s) ≡ xorBytes b (stream s)
-whole-out s b {p} h ep =
-    let e : take 32 (xorBytes p (stream s)) ≡ xorBytes b (stream s) = sealed-bytes s b 32 (omega arith) ep refl in
-    let a : take 32 (xorBytes p (stream s)) ≡ xorBytes p (stream s) = take-all 32 _ (rw (length-xor, length-stream) (omega arith)) in
-    sym a ∙ e
+  -- a whole block opened: what is xored of its block is what is xored of b
+  whole-out : 32 ≤ length b → xorBytes p (stream s) ≡ xorBytes b (stream s)
+  whole-out h =
+      let a : take 32 (xorBytes p (stream s)) ≡ xorBytes p (stream s) = take-all 32 _ (rw (length-xor, length-stream) (omega arith)) in
+      sym a ∙ sealed-bytes 32 (omega arith) refl
+
+  opened-state : {s' : State} → 32 ≤ length b → s' ≡ opening s p → s' ≡ opening s b
+  unfolding opening
+  opened-state h es = rw (es, whole-out h)
+
+-- a block's plaintext has 32 bytes
+pub opened-length : (s : State) (b : List ℕ) {p d : List ℕ} → p ≡ padded 32 b → d ≡ xorBytes p (stream s) → 32 ≡ length d
+unfolding padded
+opened-length s b ep ed = rw (ed, ep, length-xor, length-stream)
 
 -- the last part opened
 part-bytes : (s : State) (b : List ℕ) {d : List ℕ} → length b ≤ 32 → d ≡ padded 32 (xorBytes b (stream s)) → take (length b) d ≡ xorBytes b (stream s)
@@ -155,24 +152,31 @@ part-bytes s b {d} h ed =
 
 -- The turns of the loops, from what the calls ensure.
 pub absorb-on : {s₀ s s' : State} {m p : List ℕ} {i n : ℕ} → Taking s₀ m s i → i < length m → n ≡ min (length m - i) 32
-    → p ≡ padded 32 (take n (drop i m)) → s' ≡ sealing s p → Taking s₀ m s' (i + n)
-absorb-on {s₀} {s} {s'} {m} {p} {i} {n} v h en ep es = take-on v h en (sealed-state s (drop i m) n (all m i n h en) ep es)
+    → p ≡ padded 32 (drop i m) → s' ≡ sealing s p → Taking s₀ m s' (i + n)
+absorb-on {s₀} {s} {s'} {m} {p} {i} {n} v h en ep es = take-on v h en (sealed-state s (drop i m) ep es)
 
 pub cover-on : {s₀ s s' : State} {m₀ m p d m' : List ℕ} {i n : ℕ} → Going sealing s₀ m₀ s m i → i < length m → n ≡ min (length m - i) 32
-    → p ≡ padded 32 (take n (drop i m)) → (s' ≡ sealing s p) × (d ≡ xorBytes p (stream s)) → m' ≡ paste m i d n → Going sealing s₀ m₀ s' m' (i + n)
+    → p ≡ padded 32 (drop i m) → (s' ≡ sealing s p) × (d ≡ xorBytes p (stream s)) → m' ≡ paste m i d (min (length m - i) 32)
+    → Going sealing s₀ m₀ s' m' (i + n)
 cover-on {s₀} {s} {s'} {m₀} {m} {p} {d} {m'} {i} {n} v h en ep e em =
-    let a : n ≡ min (length (drop i m)) 32 = all m i n h en in
-    go-on d v h en (sealed-state s (drop i m) n a ep (e .0)) (sealed-bytes s (drop i m) n a ep (e .1)) em
+    go-on d v h en (sealed-state s (drop i m) ep (e .0)) (sealed-bytes s (drop i m) ep n (all m i n h en) (e .1)) (em ∙ ap (paste m i d) (sym en))
 
-pub uncover-on : {s₀ s s' : State} {m₀ m m' : List ℕ} {i : ℕ} → Going opening s₀ m₀ s m i → 32 ≤ length m - i
-    → (s' ≡ opening s (drop i m)) × (m' ≡ paste m i (xorBytes (drop i m) (stream s)) 32) → Going opening s₀ m₀ s' m' (i + 32)
-uncover-on {s₀} {s} {s'} {m₀} {m} {m'} {i} v h e =
-    let d : List ℕ = xorBytes (drop i m) (stream s) in
-    go-on d v (omega arith) (omega arith) (e .0) (take-all 32 d (rw (length-xor, length-stream) (omega arith))) (e .1)
+pub uncover-on : {s₀ s s' : State} {m₀ m p d m' : List ℕ} {i : ℕ} → Going opening s₀ m₀ s m i → 32 ≤ length m - i
+    → p ≡ padded 32 (drop i m) → (s' ≡ opening s p) × (d ≡ xorBytes p (stream s)) → m' ≡ paste m i d (min (length m - i) (length d))
+    → Going opening s₀ m₀ s' m' (i + 32)
+uncover-on {s₀} {s} {s'} {m₀} {m} {p} {d} {m'} {i} v h ep e em =
+    let b : List ℕ = drop i m in
+    let lb : 32 ≤ length b = rw length-drop h in
+    let ed : d ≡ xorBytes b (stream s) = e .1 ∙ whole-out s b ep lb in
+    let ld : length d ≡ 32 = rw (ed, length-xor, length-stream) (omega arith) in
+    let en : min (length m - i) (length d) ≡ 32 = omega arith in
+    go-on d v (omega arith) (omega arith) (opened-state s b ep lb (e .0)) (take-all 32 d (omega arith) ∙ ed) (em ∙ ap (paste m i d) en)
 
 pub uncover-end : {s₀ s s' : State} {m₀ m b d m' : List ℕ} {i n : ℕ} → Going opening s₀ m₀ s m i → n ≡ length m - i → 0 < n → n < 32
-    → b ≡ drop i m → (s' ≡ opening s b) × (d ≡ padded 32 (xorBytes b (stream s))) → m' ≡ paste m i d n → Going opening s₀ m₀ s' m' (i + n)
+    → b ≡ drop i m → (s' ≡ opening s b) × (d ≡ padded 32 (xorBytes b (stream s))) → m' ≡ paste m i d (min (length m - i) 32)
+    → Going opening s₀ m₀ s' m' (i + n)
 uncover-end {s₀} {s} {s'} {m₀} {m} {b} {d} {m'} {i} {n} v en h h' eb e em =
     let l : length b ≡ n = rw (eb, length-drop) (sym en) in
     let eb' : xorBytes b (stream s) ≡ xorBytes (drop i m) (stream s) = rw eb in
-    go-on d v (omega arith) (omega arith) (rw eb at (e .0)) ((rw l at (part-bytes s b (omega arith) (e .1))) ∙ eb') em
+    let k : min (length m - i) 32 ≡ n = omega arith in
+    go-on d v (omega arith) (omega arith) (rw eb at (e .0)) ((rw l at (part-bytes s b (omega arith) (e .1))) ∙ eb') (em ∙ ap (paste m i d) k)

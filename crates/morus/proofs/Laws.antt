@@ -4,23 +4,21 @@ use mathlib.Core.Bool.{Bool, true, false, cond}
 use mathlib.Core.List.{List, [], _∷_, _++_}
 use Prim.Native.Nat.{ℕ, zero, suc, _≤_, _<_, _^_}
 use native.Mathlib.Omega.{arith}
-use lib.ListN.{length, take, drop, replicate, length-take}
-use Rattle.morus.specs.declared.state.State.{State}
+use lib.ListN.{length, drop, replicate}
+use Rattle.state.specs.declared.State.{State}
 use Rattle.morus.specs.declared.Morus.{Morus}
 use Rattle.morus.specs.declared.Sealed.{Sealed}
-use Rattle.morus.specs.Bytes.{Bytes, xorBytes}
-use Rattle.morus.specs.Start.{start}
-use Rattle.morus.specs.Blocks.{stream, blocks, sealing, opening, bytesN, bytesBy, absorbed, reabsorbed}
-use Rattle.morus.specs.Lane.{_⊕_}
-use Rattle.morus.specs.Update.{S0, S4, put, times}
-use Rattle.morus.specs.Tag.{lengths, tag}
-use Rattle.morus.specs.Seal.{same, sealFrom, sealTagFrom, unsealFrom, unsealTagFrom, acceptsFrom, seal, sealTag, unseal, accepts}
+use Rattle.state.specs.Bytes.{Bytes, xorBytes}
+use Rattle.state.specs.Start.{start}
+use Rattle.state.specs.Block.{stream, sealing, opening}
+use Rattle.morus.specs.Blocks.{blocks, bytesN, bytesBy, absorbed, reabsorbed}
+use Rattle.morus.specs.Seal.{lengths, sealFrom, sealTagFrom, unsealFrom, unsealTagFrom, acceptsFrom, seal, sealTag, unseal, accepts}
 use Rattle.morus.specs.Morus.{begun, ifShort, ifFits, ifAccepted, Encrypted, Decrypted, EncryptedInto, DecryptedInto}
 use borrow.Author.Tests.{eq-eqb}
-use Rattle.morus.proofs.AllBytes.{bytes-none, bytes-append, bytes-take, bytes-drop}
-use Rattle.morus.proofs.Bounds.{stream-bytes}
-use Rattle.morus.proofs.Xor.{xor-bytes}
-use Rattle.morus.proofs.Streams.{length-stream}
+use Rattle.state.proofs.AllBytes.{bytes-none, bytes-append, bytes-take, bytes-drop}
+use Rattle.state.proofs.Bounds.{stream-bytes}
+use Rattle.state.proofs.Xor.{xor-bytes}
+use Rattle.state.proofs.Tags.{length-tag, bytes-tag}
 use Rattle.morus.proofs.Blockwise.{length-bytes}
 use Rattle.morus.proofs.RoundTrip.{opening-undoes, sealing-undoes, undone}
 use Rattle.morus.proofs.Same.{same-self, same-true}
@@ -35,16 +33,6 @@ bytes-blocks f (suc n) s b h =
     bytes-append (xorBytes b (stream s)) (bytesN f n (f s b) (drop 32 b)) (xor-bytes b (stream s) h (stream-bytes s))
     (bytes-blocks f n (f s b) (drop 32 b) (bytes-drop 32 b h))
 
-tag-long : (s : State) (d m : ℕ) → length (tag s d m) ≡ 16
-unfolding tag
-tag-long s d m = rw (length-take, length-stream)
-
-tag-all : (s : State) (d m : ℕ) → Bytes (tag s d m)
-unfolding tag
-tag-all s d m =
-    let last : State = times 10 (lengths d m) (put s 4 (S4 s ⊕ S0 s)) in
-    bytes-take 16 (stream last) (stream-bytes last)
-
 module _ (key nonce d : List ℕ) where
   -- the ciphertext is as long as the message, the tag has 16 bytes, all are bytes
   pub seal-length : (m : List ℕ) → length (seal key nonce d m) ≡ length m
@@ -57,7 +45,7 @@ module _ (key nonce d : List ℕ) where
 
   pub tag-length : (m : List ℕ) → length (sealTag key nonce d m) ≡ 16
   unfolding sealTag sealTagFrom
-  tag-length m = tag-long _ _ _
+  tag-length m = length-tag _ _
 
   pub seal-bytes : (m : List ℕ) → Bytes m → Bytes (seal key nonce d m)
   unfolding seal sealFrom bytesBy
@@ -69,7 +57,7 @@ module _ (key nonce d : List ℕ) where
 
   pub tag-bytes : (m : List ℕ) → Bytes (sealTag key nonce d m)
   unfolding sealTag sealTagFrom
-  tag-bytes m = tag-all (absorbed (absorbed (start key nonce) d) m) (length d) (length m)
+  tag-bytes m = bytes-tag (absorbed (absorbed (start key nonce) d) m) (lengths (length d) (length m))
 
   -- opening what sealing gives is accepted and gives the message back
   pub own : (m : List ℕ) → accepts key nonce d (seal key nonce d m) (sealTag key nonce d m) ≡ true

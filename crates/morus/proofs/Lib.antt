@@ -1,12 +1,3 @@
-pub mod Turn
-pub mod Words
-pub mod AllBytes
-pub mod Parts
-pub mod Xor
-pub mod Lanes
-pub mod Rounds
-pub mod Bounds
-pub mod Streams
 pub mod Blockwise
 pub mod RoundTrip
 pub mod Numbers

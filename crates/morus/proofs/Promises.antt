@@ -1,5 +1,5 @@
 -- What the entry points promise, met: each way out of each of them.
-use Prim.Native.Nat.{ℕ, zero, suc, _+_, _≤_, _<_, _^_}
+use Prim.Native.Nat.{ℕ, zero, suc, _+_, _-_, _≤_, _<_, _^_, min}
 use mathlib.Core.Path.{_≡_, refl, ap, sym, _∙_}
 use mathlib.Core.Bool.{Bool, true, false, cond}
 use mathlib.Core.List.{List, [], _++_, append-nil}
@@ -66,10 +66,11 @@ reopened zero to e s = record { number = s .number; buffer = s .buffer }
 reopened (suc k) to e s = record { number = s .number; buffer = rw e (s .buffer) }
 
 -- a whole copy
-pub pasted-over : (c m : List ℕ) → length c ≡ length m → paste c 0 m (length m) ≡ m
+pub pasted-over : (c m : List ℕ) → length c ≡ length m → paste c 0 m (min (length c - 0) (length m)) ≡ m
 pasted-over c m e =
+    let k : min (length c - 0) (length m) ≡ length m = omega arith in
     let z : drop (length m) c ≡ [] = drop-of-length-le c {i = length m} (omega arith) in
-    rw (zero-add, take-length m, z, append-nil)
+    rw (k, zero-add, take-length m, z, append-nil)
 
 -- Refused by a length check: y stands where x stood, and answers alike where x refuses.
 pub open-lengths : (w : Morus) (d c out : List ℕ) (x y : ℕ) {n : ℕ} {out' : List ℕ} → n ≡ ifShort (length d) (length c) x → (n ≡ 0 → ⊥)

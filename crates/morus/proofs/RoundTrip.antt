@@ -4,15 +4,16 @@ use mathlib.Core.List.{List, [], _∷_, _++_}
 use Prim.Native.Nat.{ℕ, zero, suc, _+_, _/_, _≤_, _<_}
 use native.Mathlib.Omega.{arith}
 use lib.ListN.{length, take, drop, length-drop, length-append, length-take, take-append-drop}
-use Rattle.morus.specs.declared.state.State.{State}
-use Rattle.morus.specs.Bytes.{padded, xorBytes}
-use Rattle.morus.specs.Lane.{laneOf}
-use Rattle.morus.specs.Update.{update}
-use Rattle.morus.specs.Blocks.{stream, blocks, sealing, opening, bytesBy, stateBy}
-use Rattle.morus.proofs.Parts.{padded-cons}
-use Rattle.morus.proofs.Lanes.{lane-padded}
-use Rattle.morus.proofs.Xor.{length-xor, xor-again}
-use Rattle.morus.proofs.Streams.{length-stream}
+use Rattle.state.specs.declared.State.{State}
+use Rattle.state.specs.Bytes.{padded, xorBytes}
+use Rattle.state.specs.Lane.{laneOf}
+use Rattle.state.specs.Update.{update}
+use Rattle.state.specs.Block.{stream, sealing, opening}
+use Rattle.morus.specs.Blocks.{blocks, bytesBy, stateBy}
+use Rattle.state.proofs.Parts.{padded-cons}
+use Rattle.state.proofs.LaneBytes.{lane-padded}
+use Rattle.state.proofs.Xor.{length-xor, xor-again}
+use Rattle.state.proofs.Streams.{length-stream}
 use Rattle.morus.proofs.Blockwise.{length-bytes, bytes-none, bytes-step, state-none, state-step}
 
 -- a part x with r behind it: x is a whole block, or r is empty

@@ -11,7 +11,7 @@ use lib.Seq.{ext-getD}
 use borrow.Author.Tests.{eq-eqb, ne-eqb, eqb-true}
 use borrow.Author.Count.{below-more}
 use Rattle.morus.specs.Seal.{same}
-use Rattle.morus.proofs.Xor.{xor-back}
+use Rattle.state.proofs.Xor.{xor-back}
 
 both : (a b : Bool) → a && b ≡ true → (a ≡ true) × (b ≡ true)
 both true b e = (refl, e)

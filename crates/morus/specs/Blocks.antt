@@ -1,31 +1,10 @@
 -- Data, then message, in 32-byte blocks.
-use Prim.Native.Nat.{ℕ, zero, suc, _+_, _/_, _%_}
+use Prim.Native.Nat.{ℕ, zero, suc, _+_, _/_}
 use mathlib.Core.List.{List, [], _++_}
 use lib.ListN.{length, drop}
-use lib.Bits.{bitAnd, bitXor}
-use Rattle.morus.specs.declared.lane.Lane.{Lane}
-use Rattle.morus.specs.declared.state.State.{State}
-use Rattle.morus.specs.Bytes.{xorBytes}
-use Rattle.morus.specs.Lane.{word, laneBy, laneOf, laneBytes}
-use Rattle.morus.specs.Update.{S0, S1, S2, S3, update}
-
--- key stream word i: S0[i] xor S1[(i+1) mod 4] xor (S2[i] & S3[i])
-unfoldable pub keyStream : State → Lane
-keyStream s =
-    laneBy
-    (λ i. bitXor (bitXor (word (S0 s) i) (word (S1 s) ((i + 1) % 4))) (bitAnd (word (S2 s) i) (word (S3 s) i)))
-
--- the 32 bytes of key stream that a state gives
-unfoldable pub stream : State → List ℕ
-stream s = laneBytes (keyStream s)
-
--- What the first block of b does to the state, where b is plaintext, and where it is ciphertext.
--- Update takes the plaintext lane, in opening also, with zeros past the last real byte.
-unfoldable pub sealing : State → List ℕ → State
-sealing s b = update s (laneOf b)
-
-unfoldable pub opening : State → List ℕ → State
-opening s b = update s (laneOf (xorBytes b (stream s)))
+use Rattle.state.specs.declared.State.{State}
+use Rattle.state.specs.Bytes.{xorBytes}
+use Rattle.state.specs.Block.{stream, sealing, opening}
 
 -- how many blocks b has: a last part of 1 to 31 bytes counts as one, and a length of 32k, 0 included, has no such part
 abbrev pub blocks : List ℕ → ℕ

@@ -5,10 +5,9 @@ use mathlib.Core.Bool.{Bool, cond}
 use mathlib.Core.List.{List}
 use lib.Dec.{leb, eqb}
 use lib.ListN.{length, replicate}
-use Rattle.morus.specs.declared.state.State.{State}
 use Rattle.morus.specs.declared.Morus.{Morus}
 use Rattle.morus.specs.declared.Sealed.{Sealed}
-use Rattle.morus.specs.Start.{start}
+use Rattle.state.specs.Start.{start}
 use Rattle.morus.specs.Seal.{sealFrom, sealTagFrom, unsealFrom, acceptsFrom}
 
 -- what a nonce and a key begin

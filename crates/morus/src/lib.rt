@@ -1,12 +1,14 @@
 // MORUS-1280-128, after the Rust crate morus 0.1.5: the entry points. The answers are numbers, each a constant below.
 mod bytes;
-mod lane;
 mod message;
-mod state;
 
-use crate::bytes::copy;
 use crate::bytes::fill;
-use crate::state::State;
+use crate::message::absorb;
+use crate::message::cover;
+use crate::message::tag_of;
+use crate::message::uncover;
+use state::State;
+use state::bytes::copy;
 ghost use mathlib.Core.Path.{_≡_};
 ghost use lib.ListN.{length};
 ghost use Rattle.morus.specs.Seal.{same};
@@ -100,7 +102,7 @@ impl Morus {
                 tag: [0u8; 16],
             };
         }
-        let tag = self.0.absorb(ad).cover(mc).mac(adlen, mlen);
+        let tag = tag_of(cover(absorb(self.0, ad), mc), adlen, mlen);
         Sealed { number: DONE, tag }
     }
 
@@ -115,7 +117,7 @@ impl Morus {
             fill(mc, REFUSED);
             return number;
         }
-        let own = self.0.absorb(ad).uncover(mc).mac(adlen, clen);
+        let own = tag_of(uncover(absorb(self.0, ad), mc), adlen, clen);
         if same_tag(tag, own) {
             return DONE;
         }
@@ -135,7 +137,7 @@ impl Morus {
                 tag: [0u8; 16],
             };
         }
-        copy(c, 0, m, 0, mlen);
+        copy(c, 0, m);
         self.encrypt_in_place(c, ad)
     }
 
@@ -149,7 +151,7 @@ impl Morus {
             fill(m, REFUSED);
             return number;
         }
-        copy(m, 0, c, 0, clen);
+        copy(m, 0, c);
         self.decrypt_in_place(m, tag, ad)
     }
 }

@@ -3,8 +3,8 @@ use Prim.Native.Nat.{_+_, _-_, _≤_}
 use mathlib.Core.Path.{_≡_}
 use native.Mathlib.Omega.{arith}
 use lib.ListN.{length, drop}
-use Rattle.journal.specs.Line.{newlineAt}
-use Rattle.journal.proofs.Newline.{newlineAt-end, newlineAt-here, newlineAt-step}
+use Rattle.run.specs.Line.{newlineAt}
+use Rattle.run.proofs.Newline.{newlineAt-end, newlineAt-here, newlineAt-step}
 use borrow.Author.Needs.{needs}
 use Rattle.journal.proofs.reader.find_newline.Statement.{statement}
 use Rattle.journal.proofs.reader.find_newline.Tie as tie

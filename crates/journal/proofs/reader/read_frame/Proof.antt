@@ -13,7 +13,7 @@ slice-aggregate-frame-number c = sym (length-take-le (c .before .before .args .c
 returns : tie.Need-returns
 returns c =
     let t : tie.Then1 = c .before .before .before .before in
-    rw (frame-fails _ _ _ _ _ (t .before .frame-number .ensures) (t .if1 .taken)) (c .before .before .refuse .ensures)
+    rw (frame-fails _ _ _ _ (t .before .frame-number .ensures) (t .if1 .taken)) (c .before .before .refuse .ensures)
 
 open-frame-requires : tie.Need-open-frame-requires
 open-frame-requires c κs =
@@ -25,7 +25,7 @@ open-frame-requires c κs =
 returns-2 : tie.Need-returns-2
 returns-2 c =
     let t : tie.Else1 = c .before .before .before .before in
-    rw (frame-passes _ _ _ _ (frame-pass _ (sym (t .before .frame-number .ensures) ∙ t .if1 .left))) (c .before .before .open-frame .ensures)
+    rw (frame-passes _ _ _ (frame-pass _ (sym (t .before .frame-number .ensures) ∙ t .if1 .left))) (c .before .before .open-frame .ensures)
 
 pub read-frame-spec : {M : Type 1} → statement M
 read-frame-spec =

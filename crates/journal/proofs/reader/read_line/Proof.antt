@@ -1,71 +1,81 @@
 -- Each return by the law of its row, from the tests that led there.
-use borrow.Author.Tests.{le-ltb, lt-ltb, eq-eqb, ne-eqb}
+use Prim.Native.Nat.{_<_}
 use native.Mathlib.Omega.{arith}
-use Rattle.journal.specs.Reader.{readAt}
-use Rattle.journal.proofs.Newline.{ended}
-use Rattle.journal.proofs.Places.{promised, unended-at, found-at}
+use lib.ListN.{length}
+use Rattle.run.proofs.Newline.{ended}
+use Rattle.run.proofs.Rows.{too-small, beyond, at-end, unended-at, found-at}
+use Rattle.journal.proofs.Promised.{promised}
 use borrow.Author.Needs.{needs}
 use Rattle.journal.proofs.reader.read_line.Statement.{statement}
 use Rattle.journal.proofs.reader.read_line.Tie as tie
 
+-- where the newline is searched for
+start : tie.Else3 → tie.Start
+start c = c .before .before .before .before .before
+
+inside : (c : tie.Else3) → start c .args .place < length (start c .args .journal .now)
+unfolding start
+inside c = omega arith
+
 returns : tie.Need-returns
-unfolding readAt
 returns c =
-    let t : tie.Then1 = c .before .before .before .before in
-    promised (c .before .before .refuse .ensures) (rw (lt-ltb _ _ (t .if1 .taken)))
+    let r : tie.After-refuse = c .before .before .before in
+    let t : tie.Then1 = r .before .before in
+    promised (r .refuse .ensures) (c .answer .ensures) (too-small _ _ _ _ (t .if1 .taken))
 
 returns-2 : tie.Need-returns-2
-unfolding readAt
 returns-2 c =
-    let t : tie.Then2 = c .before .before .before .before in
-    promised (c .before .before .refuse2 .ensures) (rw (le-ltb _ _ (t .before .if1 .left), lt-ltb _ _ (t .if2 .taken)))
+    let r : tie.After-refuse2 = c .before .before .before in
+    let t : tie.Then2 = r .before .before in
+    promised (r .refuse2 .ensures) (c .answer2 .ensures) (beyond _ _ _ _ (t .before .if1 .left) (t .if2 .taken))
 
 returns-3 : tie.Need-returns-3
-unfolding readAt
 returns-3 c =
-    let t : tie.Then3 = c .before .before .before .before in
-    promised (c .before .before .refuse3 .ensures)
-    (rw (le-ltb _ _ (t .before .before .if1 .left), le-ltb _ _ (t .before .if2 .left), eq-eqb _ _ (t .if3 .taken)))
+    let r : tie.After-refuse3 = c .before .before .before in
+    let t : tie.Then3 = r .before .before in
+    promised (r .refuse3 .ensures) (c .answer3 .ensures) (at-end _ _ _ _ (t .before .before .if1 .left) (t .if3 .taken))
 
 returns-4 : tie.Need-returns-4
-unfolding readAt
+unfolding start
 returns-4 c =
-    let t : tie.Then4 = c .before .before .before .before in
+    let r : tie.After-refuse4 = c .before .before .before in
+    let t : tie.Then4 = r .before .before in
     let f : tie.After-find-newline = t .before in
-    let e : tie.Else3 = f .before in
-    promised (c .before .before .refuse4 .ensures)
-    (rw (le-ltb _ _ (e .before .before .if1 .left), le-ltb _ _ (e .before .if2 .left), ne-eqb _ _ (e .if3 .left))
-    (unended-at _ _ _ _ (f .find-newline .ensures) (omega arith) _ (t .if4 .taken)))
+    promised (r .refuse4 .ensures) (c .answer4 .ensures)
+    (unended-at _ _ _ _ (f .before .before .before .if1 .left) (inside (f .before)) _ (f .find-newline .ensures) (t .if4 .taken))
 
 part-read-text-end : tie.Need-part-read-text-end
 part-read-text-end c = ended _ _ _ (c .before .find-newline .ensures) (omega arith)
 
-add-read-text : tie.Need-add-read-text
-add-read-text c = omega (arith, part-read-text-end (c .before))
+add-answer : tie.Need-add-answer
+add-answer c = omega (arith, part-read-text-end (c .before .before .before .before .before))
 
 returns-5 : tie.Need-returns-5
-unfolding readAt
+unfolding start
 returns-5 c =
-    let t : tie.Else4 = c .before .before .before .before .before in
+    let r : tie.After-read-text = c .before .before .before in
+    let t : tie.Else4 = r .before .before .before in
     let f : tie.After-find-newline = t .before in
-    let e : tie.Else3 = f .before in
-    promised (c .before .before .read-text .ensures)
-    (rw (le-ltb _ _ (e .before .before .if1 .left), le-ltb _ _ (e .before .if2 .left), ne-eqb _ _ (e .if3 .left))
-    (found-at _ _ _ _ (f .find-newline .ensures) (omega arith) _ _ _ (t .if4 .left)))
+    promised (r .read-text .ensures) (c .answer5 .ensures)
+    (found-at _ _ _ _ (f .before .before .before .if1 .left) (inside (f .before)) _ (f .find-newline .ensures) (t .if4 .left))
 
 pub read-line-spec : {M : Type 1} → statement M
 read-line-spec =
     tie.close
     (tie.spec
     (λ c κs. search needs)
+    (λ c κs. search needs)
     (λ c. search needs)
     returns
+    (λ c κs. search needs)
     (λ c κs. search needs)
     (λ c. search needs)
     returns-2
     (λ c κs. search needs)
+    (λ c κs. search needs)
     (λ c. search needs)
     returns-3
+    (λ c κs. search needs)
     (λ c κs. search needs)
     (λ c κs. search needs)
     (λ c. search needs)
@@ -73,7 +83,8 @@ read-line-spec =
     (λ c. search needs)
     (λ c. search needs)
     part-read-text-end
-    add-read-text
+    (λ c κs. search needs)
+    add-answer
     (λ c κs. search needs)
     (λ c. search needs)
     returns-5)

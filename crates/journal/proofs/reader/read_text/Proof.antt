@@ -1,59 +1,81 @@
--- The digit reader's number is that of the text's first failing row; with none, the frame was read, and its answer is the line's.
+-- The digit reader's number is that of the text's first failing row; with none, the frame was read, and its verdict is the line's.
+use Prim.Native.Nat.{_≤_}
 use mathlib.Core.Path.{_≡_, sym, ap, _∙_}
 use native.Mathlib.Omega.{arith}
+use lib.ListN.{length}
 use Rattle.hex.specs.Promise.{number}
 use Rattle.journal.specs.Tests.{firstFailing}
 use Rattle.journal.specs.Reader.{textTests}
-use Rattle.journal.proofs.Rows.{too-long, text-fails, text-passes}
+use Rattle.journal.proofs.Rows.{no-room, too-long, text-fails, text-passes}
 use Rattle.journal.proofs.Digits.{text-le, text-number, Digits, read-digits}
 use borrow.Author.Needs.{needs}
 use Rattle.journal.proofs.reader.read_text.Statement.{statement}
 use Rattle.journal.proofs.reader.read_text.Tie as tie
 
-number-is : (c : tie.After-read) → number (c .read .result) ≡ firstFailing (textTests (c .before .before .before .before .before .args .text .now))
-number-is c = text-number (c .read .ensures) (c .before .before .if1 .left) (c .before .before .before .before .before .pre)
+-- where the function starts, from where the digits have been read
+start : tie.After-read → tie.Start
+start c = c .before .before .before .before .before .before
 
-frame-is : (c : tie.After-count) → let r = c .before .before .before .before in Digits (r .before .before .before .before .before .args .text .now) (r .read .last .1 .0) (c .count .given .0 .0)
+big : (c : tie.After-read) → 353 ≤ length (start c .args .frame .now)
+unfolding start
+big c = c .before .before .before .if1 .left
+
+number-is : (c : tie.After-read) → number (c .read .result) ≡ firstFailing (textTests (start c .args .text .now))
+unfolding start
+number-is c = text-number (c .read .ensures) (c .before .before .if2 .left) (big c)
+
+frame-is : (c : tie.After-count) → let r = c .before .before .before .before in Digits (start r .args .text .now) (r .read .last .1 .0) (c .count .given .0 .0)
+unfolding start
 frame-is c =
     let r : tie.After-read = c .before .before .before .before in
-    read-digits (r .read .ensures) (r .before .before .if1 .left) (r .before .before .before .before .before .pre) (c .count .given .0 .0) (c .count .given .1)
+    read-digits (r .read .ensures) (r .before .before .if2 .left) (big r) (c .count .given .0 .0) (c .count .given .1)
 
 returns : tie.Need-returns
-returns c = rw (too-long _ _ _ _ (c .before .before .before .before .if1 .taken)) (c .before .before .refuse .ensures)
-
-read-frame-requires : tie.Need-read-frame-requires
-read-frame-requires c κs =
-    let d : tie.After-count = c .before .before in
-    let r : tie.After-read = d .before .before .before .before in
-    (frame-is d .small, omega (arith, r .read .kept .1 .0))
+returns c = rw (no-room _ _ _ (c .before .before .before .before .if1 .taken)) (c .before .before .refuse .ensures)
 
 returns-2 : tie.Need-returns-2
 returns-2 c =
-    let d : tie.After-count = c .before .before .before .before .before in
+    let t : tie.Then2 = c .before .before .before .before in
+    rw (too-long _ _ _ (t .before .if1 .left) (t .if2 .taken)) (c .before .before .refuse2 .ensures)
+
+read-frame-requires : tie.Need-read-frame-requires
+unfolding start
+read-frame-requires c κs =
+    let d : tie.After-count = c .before .before in
     let r : tie.After-read = d .before .before .before .before in
-    rw (text-passes _ _ _ _ (frame-is d .passed), ← frame-is d .front, ← r .read .kept .1 .0) (c .before .before .read-frame .ensures)
+    (frame-is d .small, omega (arith, r .read .kept .1 .0, big r))
 
 returns-3 : tie.Need-returns-3
+unfolding start
 returns-3 c =
+    let d : tie.After-count = c .before .before .before .before .before in
+    let r : tie.After-read = d .before .before .before .before in
+    rw (text-passes _ _ _ (big r) (frame-is d .passed), ← frame-is d .front, ← r .read .kept .1 .0) (c .before .before .read-frame .ensures)
+
+returns-4 : tie.Need-returns-4
+unfolding start
+returns-4 c =
     let t : tie.After-enum-told = c .before .before .before .before in
     let r : tie.After-read = t .before .before .before .before in
     let e = sym (ap number (t .enum-told .given .1)) ∙ number-is r in
-    rw (text-fails _ _ _ _ _ e (omega arith), ← r .read .kept .1 .0) (c .before .before .refuse2 .ensures)
+    rw (text-fails _ _ _ (big r) _ e (omega arith), ← r .read .kept .1 .0) (c .before .before .refuse3 .ensures)
 
-returns-4 : tie.Need-returns-4
-returns-4 c =
+returns-5 : tie.Need-returns-5
+unfolding start
+returns-5 c =
     let t : tie.After-enum-told2 = c .before .before .before .before in
     let r : tie.After-read = t .before .before .before .before in
     let e = sym (ap number (t .enum-told2 .given .1)) ∙ number-is r in
-    rw (text-fails _ _ _ _ _ e (omega arith), ← r .read .kept .1 .0) (c .before .before .refuse3 .ensures)
+    rw (text-fails _ _ _ (big r) _ e (omega arith), ← r .read .kept .1 .0) (c .before .before .refuse4 .ensures)
 
 -- the buffer has room for every line that is not too long
-returns-5 : tie.Need-returns-5
-returns-5 c =
+returns-6 : tie.Need-returns-6
+unfolding start
+returns-6 c =
     let t : tie.After-enum-told3 = c .before .before .before .before in
     let r : tie.After-read = t .before .before .before .before in
     let e = sym (ap number (t .enum-told3 .given .1)) ∙ number-is r in
-    absurd (omega (arith, text-le (r .before .before .before .before .before .args .text .now)))
+    absurd (omega (arith, text-le (start r .args .text .now)))
 
 pub read-text-spec : {M : Type 1} → statement M
 read-text-spec =
@@ -64,6 +86,9 @@ read-text-spec =
     returns
     (λ c κs. search needs)
     (λ c. search needs)
+    returns-2
+    (λ c κs. search needs)
+    (λ c. search needs)
     read-frame-requires
     (λ c. search needs)
     (λ c κs. search needs)
@@ -72,10 +97,10 @@ read-text-spec =
     (λ c. search needs)
     (λ c κs. search needs)
     (λ c. search needs)
-    returns-2
-    (λ c. search needs)
     returns-3
     (λ c. search needs)
     returns-4
     (λ c. search needs)
-    returns-5)
+    returns-5
+    (λ c. search needs)
+    returns-6)

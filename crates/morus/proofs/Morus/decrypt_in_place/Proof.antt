@@ -4,7 +4,7 @@ use mathlib.Core.List.{List}
 use Prim.Native.Nat.{ℕ}
 use native.Mathlib.Omega.{arith}
 use lib.ListN.{length, replicate}
-use Rattle.morus.specs.Blocks.{opening}
+use Rattle.state.specs.Block.{opening}
 use Rattle.morus.specs.Seal.{unsealFrom, unsealTagFrom}
 use Rattle.morus.proofs.Blockwise.{length-bytes}
 use Rattle.morus.proofs.Numbers.{Short, if-passed}
@@ -21,27 +21,27 @@ returns c =
 passed : (l : tie.Else1) → Short (length (l .before .before .before .before .args .ad .now)) (length (l .before .before .before .before .args .mc .now))
 passed l = if-passed _ _ 0 (sym (l .before .short-number .ensures) ∙ l .if1 .left) .0
 
-mac-requires : tie.Need-mac-requires
-mac-requires c κs =
+tag-of-requires : tie.Need-tag-of-requires
+tag-of-requires c κs =
     let p = passed (c .before .before .before .before .before) in
     (omega (arith, p .data-short, p .text-short), omega (arith, p .data-short, p .text-short))
 
 returns-2 : tie.Need-returns-2
 unfolding unsealFrom unsealTagFrom
 returns-2 c =
-    let m : tie.After-mac = c .before .before in
+    let m : tie.After-tag-of = c .before .before in
     let u : tie.After-uncover = m .before .before .before in
     let a : tie.After-absorb = u .before .before in
-    open-same _ _ _ _ _ (passed (a .before)) (rw (m .mac .ensures, u .uncover .ensures .0, a .absorb .ensures)) (sym (c .before .same-tag .ensures) ∙ c .if2 .taken) (rw (u .uncover .ensures .1, a .absorb .ensures))
+    open-same _ _ _ _ _ (passed (a .before)) (rw (m .tag-of .ensures, u .uncover .ensures .0, a .absorb .ensures)) (sym (c .before .same-tag .ensures) ∙ c .if2 .taken) (rw (u .uncover .ensures .1, a .absorb .ensures))
 
 returns-3 : tie.Need-returns-3
 unfolding unsealTagFrom
 returns-3 c =
     let e : tie.Else2 = c .before .before .before .before in
-    let m : tie.After-mac = e .before .before in
+    let m : tie.After-tag-of = e .before .before in
     let u : tie.After-uncover = m .before .before .before in
     let a : tie.After-absorb = u .before .before in
-    open-other _ _ _ _ _ (passed (a .before)) (rw (m .mac .ensures, u .uncover .ensures .0, a .absorb .ensures)) (sym (e .before .same-tag .ensures) ∙ e .if2 .left) (c .before .before .fill2 .ensures ∙ rw (u .uncover .ensures .1, length-bytes))
+    open-other _ _ _ _ _ (passed (a .before)) (rw (m .tag-of .ensures, u .uncover .ensures .0, a .absorb .ensures)) (sym (e .before .same-tag .ensures) ∙ e .if2 .left) (c .before .before .fill2 .ensures ∙ rw (u .uncover .ensures .1, length-bytes))
 
 pub decrypt-in-place-spec : {M : Type 1} → statement M
 decrypt-in-place-spec =
@@ -53,7 +53,7 @@ decrypt-in-place-spec =
     returns
     (λ c κs. search needs)
     (λ c κs. search needs)
-    mac-requires
+    tag-of-requires
     (λ c κs. search needs)
     (λ c. search needs)
     returns-2

@@ -12,8 +12,8 @@ returns : tie.Need-returns
 returns c =
     seal-refused _ _ _ _ _ (λ e. c .if1 .taken (c .before .short-number .ensures ∙ e)) (c .before .short-number .ensures) refl refl
 
-mac-requires : tie.Need-mac-requires
-mac-requires c κs =
+tag-of-requires : tie.Need-tag-of-requires
+tag-of-requires c κs =
     let l : tie.Else1 = c .before .before .before .before .before in
     let s : tie.After-short-number = l .before in
     let q : tie.Start = s .before .before .before in
@@ -26,7 +26,7 @@ returns-2 c =
     let k : tie.After-cover = c .before .before .before in
     let a : tie.After-absorb = k .before .before in
     let s : tie.After-short-number = a .before .before in
-    seal-done _ _ _ _ (sym (s .short-number .ensures) ∙ a .before .if1 .left) refl (rw (c .mac .ensures, k .cover .ensures .0, a .absorb .ensures)) (rw (k .cover .ensures .1, a .absorb .ensures))
+    seal-done _ _ _ _ (sym (s .short-number .ensures) ∙ a .before .if1 .left) refl (rw (c .tag-of .ensures, k .cover .ensures .0, a .absorb .ensures)) (rw (k .cover .ensures .1, a .absorb .ensures))
 
 pub encrypt-in-place-spec : {M : Type 1} → statement M
 encrypt-in-place-spec =
@@ -36,6 +36,6 @@ encrypt-in-place-spec =
     returns
     (λ c κs. search needs)
     (λ c κs. search needs)
-    mac-requires
+    tag-of-requires
     (λ c. search needs)
     returns-2)

@@ -1,0 +1,26 @@
+-- What a caller knows of a reading by its promise.
+use Prim.Native.Nat.{ℕ, _≤_, _<_}
+use mathlib.Core.Path.{_≡_, sym, ap, _∙_}
+use mathlib.Core.List.{List}
+use lib.ListN.{length}
+use Rattle.run.specs.Read.{Verdict, Reading, reading}
+use Rattle.run.specs.Claims.{Moves}
+use Rattle.run.proofs.Progress.{moves}
+use Rattle.journal.specs.declared.Verdict as declared
+use Rattle.journal.specs.declared.Answer.{Answer}
+use Rattle.journal.specs.Reader.{readText, readAt}
+use Rattle.journal.specs.Promise.{placed, answerOf, Gives, LineRead}
+use Rattle.journal.proofs.Rows.{not-end}
+
+-- a verdict with a place is the promise, where the reading is that
+pub promised : {j key frame frame' : List ℕ} {place next : ℕ} {x : Verdict} {v : declared.Verdict} {r : Answer}
+    → Gives x v frame' → r ≡ placed v next → readAt key j place (length frame) ≡ reading x next → LineRead j place key frame r frame'
+promised {next = next} g a e = record {
+  answer = a ∙ ap (λ (v : declared.Verdict). placed v next) (g .said) ∙ ap (λ (y : Reading). answerOf y) (sym e);
+  buffer = g .buffer ∙ ap (λ (y : Reading). y .verdict .buffer) (sym e);
+}
+
+-- a call that starts inside the journal moves forward
+pub forward : {j key frame frame' : List ℕ} {place : ℕ} {r : Answer}
+    → LineRead j place key frame r frame' → 353 ≤ length frame → place < length j → Moves j place (r .number) (r .next)
+forward {j} {key} {frame} {frame'} {place} h big l = rw (h .answer) (moves (readText key) (not-end key) (length frame) big j place l)

@@ -1,0 +1,58 @@
+-- The words of the theorems about runs.
+use Prim.Native.Nat.{ℕ, _+_, _≤_, _<_}
+use mathlib.Core.Path.{_≡_}
+use mathlib.Core.List.{List, [], _∷_, _++_, map}
+use lib.ListN.{length, replicate}
+use Rattle.run.specs.Line.{newline}
+use Rattle.run.specs.Read.{Verdict, Reader, reading, refused}
+use Rattle.run.specs.Run.{Entry, entry, run, shiftEntry}
+
+-- all that the laws ask of a reader: the end answer is not one of its own
+abbrev pub NotEnd : Reader → Type 0
+NotEnd read = (text : List ℕ) → (size : ℕ) → read text size .number ≡ 14 → ⊥
+
+abbrev pub Every : (Entry → Type 0) → List Entry → Type 0
+Every P [] = Unit {0}
+Every P (e ∷ es) = P e × Every P es
+
+-- the same number of entries, and each pair as R says
+abbrev pub Pairwise : (Entry → Entry → Type 0) → List Entry → List Entry → Type 0
+Pairwise R [] [] = Unit {0}
+Pairwise R [] (y ∷ ys) = ⊥
+Pairwise R (x ∷ xs) [] = ⊥
+Pairwise R (x ∷ xs) (y ∷ ys) = R x y × Pairwise R xs ys
+
+-- a reading from place p inside the journal moves forward, to at most its length, and is not the end answer
+pub record Moves (j : List ℕ) (p number next : ℕ) : Type 0 where
+  pub ahead : p < next
+  pub within : next ≤ length j
+  pub not-end : number ≡ 14 → ⊥
+
+-- the run ends by call L + 1, in the end answer and no sooner
+pub record Ends (read : Reader) (j : List ℕ) (size : ℕ) : Type 0 where
+  pub before : List Entry
+  pub no-sooner : Every (λ (e : Entry). e .reading .verdict .number ≡ 14 → ⊥) before
+  pub splits : run read j size ≡ before ++ (entry (length j) (reading (refused 14 size) (length j)) ∷ [])
+  pub calls : length (run read j size) ≤ length j + 1
+
+-- the answers to the lines of A: they depend on A alone, and stand before those of whatever comes after A and a newline
+pub record Before (read : Reader) (size : ℕ) (A : List ℕ) : Type 0 where
+  pub answers : List Entry
+  pub places : Every (λ (e : Entry). e .place ≤ length A) answers
+  pub splits : (T : List ℕ) → run read (A ++ newline ∷ T) size ≡ answers ++ map (shiftEntry (length A + 1)) (run read T size)
+
+-- two answers to one line that stands behind a bytes and behind b bytes
+pub record Alike (a b : ℕ) (x y : Entry) : Type 0 where
+  pub verdict : x .reading .verdict ≡ y .reading .verdict
+  pub place : x .place + b ≡ y .place + a
+  pub next : x .reading .next + b ≡ y .reading .next + a
+
+-- a buffer of `size` bytes, each of them 170; no data and no message
+pub record Blank (size n m : ℕ) (buffer : List ℕ) : Type 0 where
+  pub fill : buffer ≡ replicate size 170
+  pub no-data : n ≡ 0
+  pub no-message : m ≡ 0
+
+-- what every answer but 0 leaves
+pub record Blanks (size : ℕ) (v : Verdict) : Type 0 where
+  pub blank : (v .number ≡ 0 → ⊥) → Blank size (v .n) (v .m) (v .buffer)

@@ -1,0 +1,12 @@
+pub mod Turn
+pub mod Words
+pub mod AllBytes
+pub mod Parts
+pub mod Xor
+pub mod LaneBytes
+pub mod Rounds
+pub mod Bounds
+pub mod Streams
+pub mod Tags
+pub mod Determined
+pub mod Examples

@@ -1,0 +1,6 @@
+pub mod Bytes
+pub mod Lane
+pub mod Update
+pub mod Start
+pub mod Block
+pub mod Tag
