@@ -18,7 +18,7 @@ use Rattle.journal.specs.Line.{Fits, Made}
 use Rattle.journal.specs.Reader.{opened, readText, readAt}
 use Rattle.journal.specs.Claims.{handed}
 use Rattle.journal.specs.Promise.{LineRead}
-use Rattle.journal.proofs.Frame.{frame-length}
+use Rattle.journal.proofs.Frames.{frame-length}
 use Rattle.journal.proofs.Opened.{hands-out, opened-exactly}
 use Rattle.journal.proofs.Refused.{not-opened}
 

@@ -1,6 +1,6 @@
 pub mod Parts
 pub mod Tests
-pub mod Frame
+pub mod Frames
 pub mod Sizes
 pub mod Rows
 pub mod Digits

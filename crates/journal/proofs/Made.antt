@@ -20,7 +20,7 @@ use Rattle.journal.specs.Tests.{firstFailing}
 use Rattle.journal.specs.Reader.{bufferTests, textTests, frameTests, tagTests, lineTests, openedFrame, given, readText}
 use Rattle.journal.specs.Claims.{handed}
 use Rattle.journal.proofs.Tests.{must, AllPass}
-use Rattle.journal.proofs.Frame.{bytes-cons, bytes-append, bytes-take, bytes-drop, Parts, parts, sound}
+use Rattle.journal.proofs.Frames.{bytes-cons, bytes-append, bytes-take, bytes-drop, Parts, parts, sound}
 use Rattle.journal.proofs.Rows.{line-passes, text-number, text-passes, frame-passes}
 use Rattle.journal.proofs.Sizes.{frame-size}
 

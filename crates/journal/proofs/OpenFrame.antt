@@ -19,7 +19,7 @@ use Rattle.journal.specs.Tests.{firstFailing}
 use Rattle.journal.specs.Reader as Reader
 use Rattle.journal.specs.Reader.{tagTests, openedFrame, given}
 use Rattle.journal.specs.Promise.{Gives}
-use Rattle.journal.proofs.Frame.{frame-length, sound, at-front}
+use Rattle.journal.proofs.Frames.{frame-length, sound, at-front}
 
 joined : (nonce ad y tag rest : List ℕ) → (nonce ++ (length ad ∷ ad)) ++ (y ++ (tag ++ rest)) ≡ frameWith nonce ad y tag ++ rest
 joined nonce ad y tag rest = simp append-assoc

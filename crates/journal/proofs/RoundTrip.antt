@@ -27,7 +27,7 @@ use Rattle.journal.specs.Reader.{opened, readText, readAt, run}
 use Rattle.journal.specs.Claims.{handed}
 use Rattle.journal.specs.Promise.{answerOf, LineWritten, LineRead}
 use Rattle.journal.proofs.Tests.{AllPass, zero-pass}
-use Rattle.journal.proofs.Frame.{frame-length}
+use Rattle.journal.proofs.Frames.{frame-length}
 use Rattle.journal.proofs.Made.{digits-plain, is-sealed, line-opens}
 use Rattle.journal.proofs.Sizes.{line-size}
 use Rattle.journal.proofs.Rows.{not-end}

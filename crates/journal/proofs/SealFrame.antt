@@ -13,7 +13,7 @@ use Rattle.morus.specs.declared.Sealed.{Sealed}
 use Rattle.morus.proofs.Laws.{seal-length, tag-length, encrypted}
 use Rattle.journal.specs.Frame.{frameWith}
 use Rattle.journal.specs.Line.{frameOf}
-use Rattle.journal.proofs.Frame.{frame-length}
+use Rattle.journal.proofs.Frames.{frame-length}
 
 -- p over the front of b
 abbrev pub on : (b p : List ℕ) → List ℕ

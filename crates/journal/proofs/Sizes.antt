@@ -10,7 +10,7 @@ use Rattle.hex.specs.Hex.{hexOf}
 use Rattle.hex.proofs.Index.{hex-length}
 use Rattle.run.specs.Line.{newline}
 use Rattle.journal.specs.Line.{frameOf, lineOf, lineLength}
-use Rattle.journal.proofs.Frame.{frame-length}
+use Rattle.journal.proofs.Frames.{frame-length}
 
 module _ (key nonce ad message : List ℕ) (nonce16 : length nonce ≡ 16) where
   pub frame-size : length (frameOf key nonce ad message) ≡ 33 + length ad + length message

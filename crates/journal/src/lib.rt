@@ -1,11 +1,14 @@
 // The line journal: sealed frames in lowercase hexadecimal, one to a line.
 mod bytes;
+mod frame;
 mod numbers;
 mod reader;
+mod refusal;
+mod text;
 mod writer;
 
 pub use reader::read_line;
-pub use reader::read_text;
+pub use text::read_text;
 pub use writer::write_line;
 
 // What writing reports: a number, and the line's length.

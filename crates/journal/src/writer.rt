@@ -1,34 +1,11 @@
 // Writing a line into a lent line buffer.
 use crate::Line;
-use crate::bytes::copy;
+use crate::frame::seal_frame;
 use crate::numbers;
 use hex::Written;
 use morus::Key;
-use morus::Morus;
 use morus::Nonce;
-ghost use mathlib.Core.Path.{_≡_};
-ghost use Prim.Native.Nat.{_≤_};
-ghost use lib.ListN.{length};
-ghost use Rattle.journal.specs.Writer.{frameInto};
 ghost use Rattle.journal.specs.Promise.{LineWritten};
-
-// The sealed frame, at the front of the buffer.
-fn seal_frame(key: Key, nonce: Nonce, data: &[u8], message: &[u8], frame: &mut [u8])
-    requires { ⌜ (length (now «data») ≤ 64) × (length (now message) ≤ 256) × (353 ≤ length (now frame)) ⌝ }
-    ensures { λ _. ⌜ now (frame .exit) ≡ frameInto key nonce (now («data» .entry)) (now (message .entry)) (now (frame .entry)) ⌝ }
-{
-    let n = data.len();
-    let m = message.len();
-    let start = 17 + n;
-    let end = start + m;
-    copy(frame, 0, &nonce, 0, 16);
-    frame[16] = n as u8;
-    copy(frame, 17, data, 0, n);
-    copy(frame, start, message, 0, m);
-    let sealed = Morus::new(nonce, key).encrypt_in_place(&mut frame[start..end], data);
-    let tag = sealed.tag;
-    copy(frame, end, &tag, 0, 16);
-}
 
 // The line of nonce, data and message at the front of the lent buffer, or a refusal that leaves the buffer as it was.
 pub fn write_line(key: Key, nonce: Nonce, data: &[u8], message: &[u8], line: &mut [u8]) -> Line

@@ -5,8 +5,8 @@ use lib.ListN.{getD}
 use lib.Seq.{length-take-le}
 use Rattle.journal.proofs.OpenFrame.{Settled, settle}
 use borrow.Author.Needs.{needs}
-use Rattle.journal.proofs.reader.open_frame.Statement.{statement}
-use Rattle.journal.proofs.reader.open_frame.Tie as tie
+use Rattle.journal.proofs.frame.open_frame.Statement.{statement}
+use Rattle.journal.proofs.frame.open_frame.Tie as tie
 
 -- where the function starts, from where the data is copied
 start : tie.After-copy → tie.Start

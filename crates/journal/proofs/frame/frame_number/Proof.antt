@@ -4,8 +4,8 @@ use native.Mathlib.Omega.{arith}
 use Rattle.journal.specs.Tests.{firstFailing}
 use Rattle.journal.specs.Reader.{frameTests}
 use borrow.Author.Needs.{needs}
-use Rattle.journal.proofs.reader.frame_number.Statement.{statement}
-use Rattle.journal.proofs.reader.frame_number.Tie as tie
+use Rattle.journal.proofs.frame.frame_number.Statement.{statement}
+use Rattle.journal.proofs.frame.frame_number.Tie as tie
 
 returns : tie.Need-returns
 unfolding firstFailing frameTests

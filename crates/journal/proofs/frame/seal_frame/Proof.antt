@@ -6,8 +6,8 @@ use lib.ListN.{length, length-set}
 use borrow.Rule.Slice.PartMut.{putMid, same-len-mid}
 use Rattle.journal.proofs.SealFrame.{seal-steps}
 use borrow.Author.Needs.{needs}
-use Rattle.journal.proofs.writer.seal_frame.Statement.{statement}
-use Rattle.journal.proofs.writer.seal_frame.Tie as tie
+use Rattle.journal.proofs.frame.seal_frame.Statement.{statement}
+use Rattle.journal.proofs.frame.seal_frame.Tie as tie
 
 -- where the function starts, from each step
 abbrev start : tie.After-copy → tie.Start

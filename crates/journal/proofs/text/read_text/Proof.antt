@@ -9,8 +9,8 @@ use Rattle.journal.specs.Reader.{textTests}
 use Rattle.journal.proofs.Rows.{no-room, too-long, text-fails, text-passes}
 use Rattle.journal.proofs.Digits.{text-le, text-number, Digits, read-digits}
 use borrow.Author.Needs.{needs}
-use Rattle.journal.proofs.reader.read_text.Statement.{statement}
-use Rattle.journal.proofs.reader.read_text.Tie as tie
+use Rattle.journal.proofs.text.read_text.Statement.{statement}
+use Rattle.journal.proofs.text.read_text.Tie as tie
 
 -- where the function starts, from where the digits have been read
 start : tie.After-read → tie.Start

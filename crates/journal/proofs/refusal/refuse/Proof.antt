@@ -3,8 +3,8 @@ use mathlib.Core.Path.{refl, _∙_}
 use native.Mathlib.Nat.{sub-zero}
 use Rattle.run.specs.Read.{refused}
 use borrow.Author.Needs.{needs}
-use Rattle.journal.proofs.reader.refuse.Statement.{statement}
-use Rattle.journal.proofs.reader.refuse.Tie as tie
+use Rattle.journal.proofs.refusal.refuse.Statement.{statement}
+use Rattle.journal.proofs.refusal.refuse.Tie as tie
 
 returns : tie.Need-returns
 unfolding refused

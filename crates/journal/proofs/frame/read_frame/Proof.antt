@@ -4,8 +4,8 @@ use lib.Seq.{length-take-le}
 use native.Mathlib.Omega.{arith}
 use Rattle.journal.proofs.Rows.{frame-fails, frame-pass, frame-passes, passed}
 use borrow.Author.Needs.{needs}
-use Rattle.journal.proofs.reader.read_frame.Statement.{statement}
-use Rattle.journal.proofs.reader.read_frame.Tie as tie
+use Rattle.journal.proofs.frame.read_frame.Statement.{statement}
+use Rattle.journal.proofs.frame.read_frame.Tie as tie
 
 slice-aggregate-frame-number : tie.Need-slice-aggregate-frame-number
 slice-aggregate-frame-number c = sym (length-take-le (c .before .before .args .count) (c .before .before .args .frame .now) (omega arith))

@@ -1,0 +1,14 @@
+// Where every refusal of a line's text ends.
+use crate::Verdict;
+use crate::bytes::fill;
+ghost use lib.ListN.{length};
+ghost use Rattle.run.specs.Read.{refused};
+ghost use Rattle.journal.specs.Promise.{Gives};
+
+// The verdict with `number`, and the whole buffer 0xaa.
+pub(crate) fn refuse(number: u8, frame: &mut [u8]) -> Verdict
+    ensures { λ r. ⌜ Gives (refused number (length (now (frame .entry)))) r (now (frame .exit)) ⌝ }
+{
+    fill(frame, 0);
+    Verdict { number, n: 0, m: 0 }
+}
