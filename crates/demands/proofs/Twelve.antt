@@ -6,13 +6,13 @@ use lib.ListN.{length, replicate}
 use Rattle.state.specs.Lane.{turn, laneOf, _⊕_, _&_, turned, moved}
 use Rattle.state.specs.Update.{step1, step2, step3, step4, step5, firstSteps, lastSteps, update}
 use Rattle.state.specs.Block.{keyStream}
-use Rattle.journal.specs.Tests.{firstFailing}
-use Rattle.journal.specs.Reader.{frameTests}
+use Rattle.answers.specs.Rows.{firstFailing}
+use Rattle.journal.specs.Reader.{frameRows}
 use Rattle.journal.proofs.Sizes.{line-size}
 use Rattle.demands.specs.Twelve.{Twelve}
 
 pub twelve : Twelve
-unfolding turn laneOf _⊕_ _&_ turned moved step1 step2 step3 step4 step5 firstSteps lastSteps update keyStream firstFailing frameTests
+unfolding turn laneOf _⊕_ _&_ turned moved step1 step2 step3 step4 step5 firstSteps lastSteps update keyStream firstFailing frameRows
 twelve =
     record {
       case1 = refl;

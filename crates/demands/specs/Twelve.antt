@@ -9,8 +9,8 @@ use Rattle.state.specs.Start.{constants}
 use Rattle.state.specs.Block.{keyStream}
 use Rattle.morus.specs.Seal.{lengths}
 use Rattle.journal.specs.Line.{lineOf}
-use Rattle.journal.specs.Tests.{firstFailing}
-use Rattle.journal.specs.Reader.{frameTests}
+use Rattle.answers.specs.Rows.{firstFailing}
+use Rattle.journal.specs.Reader.{frameRows}
 
 pub record Twelve : Type 0 where
   pub case1 : turn 13 1 ≡ 8192
@@ -26,4 +26,4 @@ pub record Twelve : Type 0 where
   pub case9 : lengths 1 33 ≡ lane4 8 264 0 0
   pub case10 : (key nonce : List ℕ) → length nonce ≡ 16 → length (lineOf key nonce [] []) ≡ 67
   pub case11 : (key nonce ad message : List ℕ) → length nonce ≡ 16 → length ad ≡ 64 → length message ≡ 256 → length (lineOf key nonce ad message) ≡ 707
-  pub case12 : firstFailing (frameTests (replicate 353 0)) ≡ 10
+  pub case12 : firstFailing (frameRows (replicate 353 0)) ≡ 10

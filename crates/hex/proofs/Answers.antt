@@ -6,6 +6,7 @@ use mathlib.Core.Bool.{true, false}
 use mathlib.Core.List.{List}
 use lib.ListN.{length}
 use borrow.Author.Tests.{le-leb, lt-leb, eq-eqb, ne-eqb}
+use Rattle.answers.specs.Rows.{firstFailing}
 use Rattle.hex.specs.Hex.{hexOf, allDigits, unhex}
 use Rattle.hex.specs.Promise.{front, ReadOf, WrittenOf}
 use Rattle.hex.specs.declared.answer.Read.the-variants as Answer
@@ -13,12 +14,15 @@ use Rattle.hex.specs.declared.answer.Written.the-variants as Report
 
 module _ (text bytes : List ℕ) where
   pub not-digit : allDigits text ≡ false → ReadOf text bytes Answer.NotDigit bytes
+  unfolding firstFailing
   not-digit d = record { answer = rw d; numbered = rw d; buffer = rw d }
 
   pub odd : allDigits text ≡ true → (length text % 2 ≡ 0 → ⊥) → ReadOf text bytes Answer.Odd bytes
+  unfolding firstFailing
   odd d o = let t = ne-eqb (length text % 2) 0 o in record { answer = rw (d, t); numbered = rw (d, t); buffer = rw (d, t) }
 
   pub no-room : allDigits text ≡ true → length text % 2 ≡ 0 → length bytes < length text / 2 → ReadOf text bytes Answer.NoRoom bytes
+  unfolding firstFailing
   no-room d e h =
       let t = eq-eqb (length text % 2) 0 e in
       let u = lt-leb (length text / 2) (length bytes) h in
@@ -26,6 +30,7 @@ module _ (text bytes : List ℕ) where
 
   pub done : {now : List ℕ} → allDigits text ≡ true → length text % 2 ≡ 0 → length text / 2 ≤ length bytes
       → now ≡ front (length text / 2) (unhex text) bytes → ReadOf text bytes (Answer.Bytes (length text / 2)) now
+  unfolding firstFailing
   done d e h f =
       let t = eq-eqb (length text % 2) 0 e in
       let u = le-leb (length text / 2) (length bytes) h in

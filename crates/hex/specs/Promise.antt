@@ -3,21 +3,27 @@
 use Prim.Native.Nat.{ℕ, _*_, _/_, _%_}
 use mathlib.Core.Path.{_≡_}
 use mathlib.Core.Bool.{cond}
-use mathlib.Core.List.{List, _++_}
+use mathlib.Core.List.{List, [], _∷_, _++_}
 use lib.ListN.{length, take, drop}
 use lib.Dec.{leb, eqb}
+use Rattle.answers.specs.Numbers.{done, notDigit, odd}
+use Rattle.answers.specs.Rows.{Row, _else_, firstFailing}
 use Rattle.hex.specs.Hex.{hexOf, allDigits, unhex}
 use Rattle.hex.specs.declared.answer.Read.{Read}
 use Rattle.hex.specs.declared.answer.Read.the-variants as Answer
 use Rattle.hex.specs.declared.answer.Written.{Written}
 use Rattle.hex.specs.declared.answer.Written.the-variants as Report
 
--- the number of each answer in the document's table; it has no row for a lack of room, and 255 is none of its numbers
+-- the table has no row for a lack of room, and this is none of its numbers
+abbrev pub noRoom : ℕ
+noRoom = 255
+
+-- the number of each answer in the table
 abbrev pub number : Read → ℕ
-number (Answer.Bytes n) = 0
-number Answer.NotDigit = 5
-number Answer.Odd = 6
-number Answer.NoRoom = 255
+number (Answer.Bytes n) = done
+number Answer.NotDigit = notDigit
+number Answer.Odd = odd
+number Answer.NoRoom = noRoom
 
 -- how many bytes an answer says were stored
 abbrev pub stored : Read → ℕ
@@ -42,16 +48,17 @@ readOf text room =
     (cond (eqb (length text % 2) 0) (cond (leb (length text / 2) room) (Answer.Bytes (length text / 2)) Answer.NoRoom) Answer.Odd)
     Answer.NotDigit
 
--- the same answer by its number, as the table has it
-abbrev pub readNumber : List ℕ → ℕ → ℕ
-readNumber text room = cond (allDigits text) (cond (eqb (length text % 2) 0) (cond (leb (length text / 2) room) 0 255) 6) 5
+-- the same by rows of the table
+abbrev pub readRows : List ℕ → ℕ → List Row
+readRows text room =
+    (allDigits text else notDigit) ∷ (eqb (length text % 2) 0 else odd) ∷ (leb (length text / 2) room else noRoom) ∷ []
 
 abbrev pub readInto : List ℕ → List ℕ → List ℕ
 readInto text bytes = front (stored (readOf text (length bytes))) (unhex text) bytes
 
 pub record ReadOf (text bytes : List ℕ) (r : Read) (bytes' : List ℕ) : Type 0 where
   pub answer : r ≡ readOf text (length bytes)
-  pub numbered : number r ≡ readNumber text (length bytes)
+  pub numbered : number r ≡ firstFailing (readRows text (length bytes))
   pub buffer : bytes' ≡ readInto text bytes
 
 -- the writer's report for bytes and a buffer of `room` bytes

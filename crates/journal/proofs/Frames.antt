@@ -5,6 +5,7 @@ use mathlib.Core.List.{List, [], _∷_, _++_, append-assoc}
 use native.Mathlib.Omega.{arith}
 use lib.ListN.{length, take, drop, length-append, length-drop, take-append-drop}
 use lib.Seq.{split-at, take-at, drop-at, getD-at, append-snoc, length-take-le, getD-drop}
+use Rattle.answers.specs.Sizes.{nonceSize, dataAt, tagSize, fixed}
 use Rattle.morus.specs.Bytes.{Bytes}
 use Rattle.journal.specs.Frame.{frameWith, nIn, mIn, nonceIn, adIn, cipherIn, tagIn}
 
@@ -38,14 +39,14 @@ pub record Parts (f nonce ad body tag : List ℕ) : Type 0 where
   pub bodyIs : cipherIn f ≡ body
   pub tagIs : tagIn f ≡ tag
 
-pub parts : (nonce ad body tag : List ℕ) → length nonce ≡ 16 → length tag ≡ 16 → Parts (frameWith nonce ad body tag) nonce ad body tag
+pub parts : (nonce ad body tag : List ℕ) → length nonce ≡ nonceSize → length tag ≡ tagSize → Parts (frameWith nonce ad body tag) nonce ad body tag
 parts nonce ad body tag hn ht =
     let f = frameWith nonce ad body tag in
     let n : nIn f ≡ length ad = getD-at nonce (length ad) (ad ++ (body ++ tag)) 0 16 hn in
     let m : mIn f ≡ length body = rw n (omega (arith, frame-length nonce ad body tag)) in
-    let d : drop 17 f ≡ ad ++ (body ++ tag) =
-    rw append-snoc at (drop-at (nonce ++ (length ad ∷ [])) (ad ++ (body ++ tag)) 17 (omega (arith, length-append nonce (length ad ∷ [])))) in
-    let d2 : drop (nIn f) (drop 17 f) ≡ body ++ tag = rw (n, d) (drop-at ad (body ++ tag) (length ad) refl) in
+    let d : drop dataAt f ≡ ad ++ (body ++ tag) =
+    rw append-snoc at (drop-at (nonce ++ (length ad ∷ [])) (ad ++ (body ++ tag)) dataAt (omega (arith, length-append nonce (length ad ∷ [])))) in
+    let d2 : drop (nIn f) (drop dataAt f) ≡ body ++ tag = rw (n, d) (drop-at ad (body ++ tag) (length ad) refl) in
     record {
       nIs = n;
       mIs = m;
@@ -58,15 +59,15 @@ parts nonce ad body tag hn ht =
 -- a frame that is long enough is put together from its parts
 pub record Sound (f : List ℕ) : Type 0 where
   pub whole : frameWith (nonceIn f) (adIn f) (cipherIn f) (tagIn f) ≡ f
-  pub nonce16 : length (nonceIn f) ≡ 16
+  pub nonce16 : length (nonceIn f) ≡ nonceSize
   pub adLength : length (adIn f) ≡ nIn f
   pub bodyLength : length (cipherIn f) ≡ mIn f
-  pub tag16 : length (tagIn f) ≡ 16
+  pub tag16 : length (tagIn f) ≡ tagSize
 
-pub sound : (f : List ℕ) → 33 + nIn f ≤ length f → Sound f
+pub sound : (f : List ℕ) → fixed + nIn f ≤ length f → Sound f
 sound f h =
-    let d = drop 17 f in
-    let l17 : length d ≡ length f - 17 = length-drop 17 f in
+    let d = drop dataAt f in
+    let l17 : length d ≡ length f - dataAt = length-drop dataAt f in
     let ln : length (drop (nIn f) d) ≡ length d - nIn f = length-drop (nIn f) d in
     let la : length (adIn f) ≡ nIn f = length-take-le (nIn f) d (omega arith) in
     record {
@@ -80,23 +81,23 @@ sound f h =
 -- ---- a frame at the front of a buffer, cut where its parts begin
 
 pub record AtFront (nonce ad body tag rest : List ℕ) : Type 0 where
-  pub data-at : drop 17 (frameWith nonce ad body tag ++ rest) ≡ ad ++ (body ++ (tag ++ rest))
-  pub before-body : (i : ℕ) → i ≡ 17 + length ad → take i (frameWith nonce ad body tag ++ rest) ≡ nonce ++ (length ad ∷ ad)
-  pub body-at : (i : ℕ) → i ≡ 17 + length ad → drop i (frameWith nonce ad body tag ++ rest) ≡ body ++ (tag ++ rest)
-  pub tag-at : (i : ℕ) → i ≡ 17 + length ad + length body → take 16 (drop i (frameWith nonce ad body tag ++ rest)) ≡ tag
+  pub data-at : drop dataAt (frameWith nonce ad body tag ++ rest) ≡ ad ++ (body ++ (tag ++ rest))
+  pub before-body : (i : ℕ) → i ≡ dataAt + length ad → take i (frameWith nonce ad body tag ++ rest) ≡ nonce ++ (length ad ∷ ad)
+  pub body-at : (i : ℕ) → i ≡ dataAt + length ad → drop i (frameWith nonce ad body tag ++ rest) ≡ body ++ (tag ++ rest)
+  pub tag-at : (i : ℕ) → i ≡ dataAt + length ad + length body → take tagSize (drop i (frameWith nonce ad body tag ++ rest)) ≡ tag
 
-pub at-front : (nonce ad body tag rest : List ℕ) → length nonce ≡ 16 → length tag ≡ 16 → AtFront nonce ad body tag rest
+pub at-front : (nonce ad body tag rest : List ℕ) → length nonce ≡ nonceSize → length tag ≡ tagSize → AtFront nonce ad body tag rest
 at-front nonce ad body tag rest nonce16 tag16 =
     let whole = frameWith nonce ad body tag ++ rest in
     let by-data : whole ≡ (nonce ++ (length ad ∷ [])) ++ (ad ++ (body ++ (tag ++ rest))) = simp append-assoc in
     let by-body : whole ≡ (nonce ++ (length ad ∷ ad)) ++ (body ++ (tag ++ rest)) = simp append-assoc in
     let by-tag : whole ≡ (nonce ++ (length ad ∷ (ad ++ body))) ++ (tag ++ rest) = simp append-assoc in
     record {
-      data-at = ap (drop 17) by-data ∙ drop-at (nonce ++ (length ad ∷ [])) (ad ++ (body ++ (tag ++ rest))) 17 (rw length-append (omega arith));
+      data-at = ap (drop dataAt) by-data ∙ drop-at (nonce ++ (length ad ∷ [])) (ad ++ (body ++ (tag ++ rest))) dataAt (rw length-append (omega arith));
       before-body = λ i e. ap (take i) by-body ∙ take-at (nonce ++ (length ad ∷ ad)) (body ++ (tag ++ rest)) i (rw length-append (omega arith));
       body-at = λ i e. ap (drop i) by-body ∙ drop-at (nonce ++ (length ad ∷ ad)) (body ++ (tag ++ rest)) i (rw length-append (omega arith));
       tag-at = λ i e.
-          ap (λ (x : List ℕ). take 16 (drop i x)) by-tag
+          ap (λ (x : List ℕ). take tagSize (drop i x)) by-tag
           ∙ ap (take 16) (drop-at (nonce ++ (length ad ∷ (ad ++ body))) (tag ++ rest) i (rw (length-append nonce (length ad ∷ (ad ++ body)), length-append ad body) (omega arith)))
           ∙ take-at tag rest 16 tag16;
     }

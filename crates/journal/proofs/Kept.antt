@@ -7,6 +7,7 @@ use native.Mathlib.Omega.{arith}
 use lib.ListN.{length, replicate, length-append, length-replicate}
 use lib.Dec.{ltb}
 use borrow.Author.Tests.{ltb-true, ltb-false}
+use Rattle.answers.specs.Sizes.{fill, mostFrame}
 use Rattle.morus.specs.Seal.{sealTag}
 use Rattle.morus.proofs.Laws.{tag-length}
 use Rattle.journal.specs.declared.Answer.{Answer}
@@ -22,27 +23,27 @@ use Rattle.journal.proofs.Frames.{frame-length}
 use Rattle.journal.proofs.Opened.{hands-out, opened-exactly}
 use Rattle.journal.proofs.Refused.{not-opened}
 
-handed-length : (key nonce ad message : List ℕ) (size : ℕ) → Fits nonce ad message → 353 ≤ size
+handed-length : (key nonce ad message : List ℕ) (size : ℕ) → Fits nonce ad message → mostFrame ≤ size
     → length (handed key nonce ad message size .buffer) ≡ size
 unfolding handed opened
 handed-length key nonce ad message size F big =
     let t = sealTag key nonce ad message in
     let front = frameWith nonce ad message t in
-    length-append front (replicate (size - length front) 0xaa)
-    ∙ omega (arith, length-replicate {A = ℕ} (size - length front) 0xaa, frame-length nonce ad message t, tag-length key nonce ad message, F)
+    length-append front (replicate (size - length front) fill)
+    ∙ omega (arith, length-replicate {A = ℕ} (size - length front) fill, frame-length nonce ad message t, tag-length key nonce ad message, F)
 
 pub keeps-length : {j key frame frame' : List ℕ} {place : ℕ} {r : Answer} → LineRead j place key frame r frame' → length frame' ≡ length frame
 unfolding refused
-keeps-length {j} {key} {frame} {frame'} {place} {r} h = go (r .number) refl (ltb (length frame) 353) refl
+keeps-length {j} {key} {frame} {frame'} {place} {r} h = go (r .number) refl (ltb (length frame) mostFrame) refl
   where
     number : r .number ≡ readAt key j place (length frame) .verdict .number
     number = ap (λ (a : Answer). a .number) (h .answer)
 
-    go : (k : ℕ) → r .number ≡ k → (b : Bool) → ltb (length frame) 353 ≡ b → length frame' ≡ length frame
+    go : (k : ℕ) → r .number ≡ k → (b : Bool) → ltb (length frame) mostFrame ≡ b → length frame' ≡ length frame
     go zero e true t =
-        absurd (omega (arith, number, ap (λ (x : Reading). x .verdict .number) (too-small (readText key) j place (length frame) (ltb-true (length frame) 353 t))))
+        absurd (omega (arith, number, ap (λ (x : Reading). x .verdict .number) (too-small (readText key) j place (length frame) (ltb-true (length frame) mostFrame t))))
     go zero e false t =
-        let big = ltb-false (length frame) 353 t in
+        let big = ltb-false (length frame) mostFrame t in
         let M : Made key (lineAt j place) = opened-exactly key (length frame) big j place .0 (sym number ∙ e) in
         ap length (h .buffer ∙ ap (λ (x : Reading). x .verdict .buffer) (hands-out key (length frame) big j place M))
         ∙ handed-length key (M .nonce) (M .ad) (M .message) (length frame) (M .fits) big

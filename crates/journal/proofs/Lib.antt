@@ -1,5 +1,4 @@
 pub mod Parts
-pub mod Tests
 pub mod Frames
 pub mod Sizes
 pub mod Rows

@@ -6,7 +6,7 @@ use mathlib.Core.List.{List, [], _∷_, _++_}
 use native.Mathlib.Omega.{arith}
 use lib.ListN.{length, drop}
 use lib.Seq.{take-append-seam}
-use borrow.Author.Tests.{eq-eqb, leb-true, leb-false, eqb-true}
+use Rattle.answers.specs.Sizes.{dataAt, fixed, mostFrame}
 use Rattle.morus.specs.Bytes.{Bytes}
 use Rattle.morus.specs.Seal.{seal, sealTag, unseal, accepts}
 use Rattle.morus.proofs.Laws.{seal-length, seal-bytes, tag-length, tag-bytes, unseal-length, unseal-bytes, own, back, only}
@@ -16,12 +16,11 @@ use Rattle.journal.specs.Frame.{nIn, mIn, nonceIn, adIn, cipherIn, tagIn
 use Rattle.run.specs.Line.{newline, textOf}
 use Rattle.run.proofs.Newline.{Plain, newlineAt-plain, no-newline}
 use Rattle.journal.specs.Line.{frameOf, lineOf, Fits, Made}
-use Rattle.journal.specs.Tests.{firstFailing}
-use Rattle.journal.specs.Reader.{bufferTests, textTests, frameTests, tagTests, lineTests, openedFrame, given, readText}
+use Rattle.answers.specs.Rows.{firstFailing}
+use Rattle.journal.specs.Reader.{tagRows, openedFrame, given, readText}
 use Rattle.journal.specs.Claims.{handed}
-use Rattle.journal.proofs.Tests.{must, AllPass}
 use Rattle.journal.proofs.Frames.{bytes-cons, bytes-append, bytes-take, bytes-drop, Parts, parts, sound}
-use Rattle.journal.proofs.Rows.{line-passes, text-number, text-passes, frame-passes}
+use Rattle.journal.proofs.Rows.{GoodText, GoodFrame, line-pass, text-number, text-passes, frame-passes}
 use Rattle.journal.proofs.Sizes.{frame-size}
 
 -- the digits of a frame have no newline, so a line's text is the digits
@@ -35,7 +34,7 @@ module _ (key : List ℕ) where
   -- what the sealing makes of nonce, data and message
   pub record Sealed (nonce ad message : List ℕ) : Type 0 where
     pub bytes : Bytes (frameOf key nonce ad message)
-    pub len : length (frameOf key nonce ad message) ≡ 33 + length ad + length message
+    pub len : length (frameOf key nonce ad message) ≡ fixed + length ad + length message
     pub are : Parts (frameOf key nonce ad message) nonce ad (seal key nonce ad message) (sealTag key nonce ad message)
 
   pub is-sealed : (nonce ad message : List ℕ) → Fits nonce ad message → Sealed nonce ad message
@@ -60,60 +59,53 @@ module _ (key : List ℕ) where
     S : Sealed nonce ad message
     S = is-sealed nonce ad message F
 
-    text-pass : AllPass (textTests (hexOf f))
-    unfolding textTests
-    text-pass =
+    text-good : GoodText (hexOf f)
+    text-good =
         let K = coded f (S .bytes) in
-        (must (λ e. omega (arith, leb-false, K .len, S .len, F .ad64, F .message256)), (K .digits, (eq-eqb (length (hexOf f) % 2) 0 (omega (arith, K .len)), tt)))
+        let len = S .len in
+        record { short = omega (arith, K .len, F .ad64, F .message256); digits = K .digits; even = omega (arith, K .len) }
 
-    rows-pass : AllPass (frameTests f)
-    unfolding frameTests
-    rows-pass =
+    frame-good : GoodFrame f
+    frame-good =
         let n = S .are .nIs in
         let m = S .are .mIs ∙ seal-length key nonce ad message in
         let l = S .len in
         let n64 = F .ad64 in
         let m256 = F .message256 in
-        (must (λ e. omega (arith, leb-false)), (must (λ e. omega (arith, leb-false)), (must (λ e. omega (arith, leb-false)), (must (λ e. omega (arith, leb-false)), tt))))
+        record { least = omega arith; few = omega arith; within = omega arith; most = omega arith }
 
-    tag-passes : (size : ℕ) → given key f size (firstFailing (tagTests key f)) ≡ handed key nonce ad message size
-    unfolding firstFailing tagTests given openedFrame handed
+    tag-passes : (size : ℕ) → given key f size (firstFailing (tagRows key f)) ≡ handed key nonce ad message size
+    unfolding firstFailing tagRows given openedFrame handed
     tag-passes size =
         let P = S .are in
         let a : accepts key (nonceIn f) (adIn f) (cipherIn f) (tagIn f) ≡ true = rw (P .tagIs, P .bodyIs, P .adIs, P .nonceIs) (own key nonce ad message) in
         rw (a, P .tagIs, P .bodyIs, P .adIs, P .nonceIs, P .mIs, P .nIs, back key nonce ad message, seal-length key nonce ad message)
 
-    pub line-opens : (size : ℕ) → 353 ≤ size → readText key (hexOf f) size ≡ handed key nonce ad message size
+    pub line-opens : (size : ℕ) → mostFrame ≤ size → readText key (hexOf f) size ≡ handed key nonce ad message size
     line-opens size big =
-        text-passes key (hexOf f) size big text-pass
-        ∙ rw (coded f (S .bytes) .back) (frame-passes key f size rows-pass ∙ tag-passes size)
+        text-passes key (hexOf f) size big text-good
+        ∙ rw (coded f (S .bytes) .back) (frame-passes key f size frame-good ∙ tag-passes size)
 
   -- a text that is opened is one that the sealing made
   pub opened-made : (text : List ℕ) (size : ℕ) → readText key text size .number ≡ 0 → Made key (text ++ (newline ∷ []))
-  unfolding lineTests bufferTests textTests frameTests tagTests
   opened-made text size e =
       let f = unhex text in
-      let all : AllPass (lineTests key text size) = line-passes key text size (sym (text-number key text size) ∙ e) in
-      let p = all .1 in
-      let q = p .1 .1 .1 in
-      let n64 = q .1 .0 in
-      let long = q .1 .1 .0 in
-      let m256 = q .1 .1 .1 .0 in
-      let D = decoded text (p .1 .0) (eqb-true (length text % 2) 0 (p .1 .1 .0)) in
-      let S = sound f (omega (arith, leb-true)) in
-      let o = only key (nonceIn f) (adIn f) (cipherIn f) (tagIn f) (q .1 .1 .1 .1 .0) in
-      let rest = bytes-drop (nIn f) (drop 17 f) (bytes-drop 17 f (D .bytes)) in
+      let g = line-pass key text size (sym (text-number key text size) ∙ e) in
+      let D = decoded text (g .digits .digits) (g .digits .even) in
+      let S = sound f (g .frame .within) in
+      let o = only key (nonceIn f) (adIn f) (cipherIn f) (tagIn f) (g .tag) in
+      let rest = bytes-drop (nIn f) (drop dataAt f) (bytes-drop dataAt f (D .bytes)) in
       record {
         nonce = nonceIn f;
         ad = adIn f;
         message = unseal key (nonceIn f) (adIn f) (cipherIn f);
         fits = record {
           nonce16 = S .nonce16;
-          ad64 = omega (arith, leb-true, S .adLength);
-          message256 = omega (arith, leb-true, S .bodyLength, unseal-length key (nonceIn f) (adIn f) (cipherIn f));
+          ad64 = omega (arith, g .frame .few, S .adLength);
+          message256 = omega (arith, g .frame .most, S .bodyLength, unseal-length key (nonceIn f) (adIn f) (cipherIn f));
           nonceBytes = bytes-take 16 f (D .bytes);
-          adBytes = bytes-take (nIn f) (drop 17 f) (bytes-drop 17 f (D .bytes));
-          messageBytes = unseal-bytes key (nonceIn f) (adIn f) (cipherIn f) (bytes-take (mIn f) (drop (nIn f) (drop 17 f)) rest);
+          adBytes = bytes-take (nIn f) (drop dataAt f) (bytes-drop dataAt f (D .bytes));
+          messageBytes = unseal-bytes key (nonceIn f) (adIn f) (cipherIn f) (bytes-take (mIn f) (drop (nIn f) (drop dataAt f)) rest);
         };
         is = rw (o .0, o .1, S .whole, D .back);
       }

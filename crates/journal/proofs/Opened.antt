@@ -4,6 +4,7 @@ use mathlib.Core.Path.{_≡_, ap, _∙_}
 use mathlib.Core.Logic.{_↔_}
 use mathlib.Core.List.{List}
 use lib.ListN.{length}
+use Rattle.answers.specs.Sizes.{mostFrame}
 use Rattle.hex.specs.Hex.{hexOf}
 use Rattle.run.specs.Line.{lineAt}
 use Rattle.run.specs.Read.{Reading, reading}
@@ -17,7 +18,7 @@ use Rattle.journal.specs.Reader.{opened, readText, readAt, runFrom, run}
 use Rattle.journal.specs.Claims.{handed, Right}
 use Rattle.journal.proofs.Made.{digits-plain, is-sealed, line-opens, opened-made}
 
-module _ (key : List ℕ) (size : ℕ) (big : 353 ≤ size) (j : List ℕ) where
+module _ (key : List ℕ) (size : ℕ) (big : mostFrame ≤ size) (j : List ℕ) where
   module _ (p : ℕ) where
     -- what is handed out
     pub hands-out : (M : Made key (lineAt j p)) → readAt key j p size ≡ reading (handed key (M .nonce) (M .ad) (M .message) size) (p + length (lineAt j p))

@@ -3,6 +3,7 @@ use Prim.Native.Nat.{ℕ, _≤_, _<_}
 use mathlib.Core.Path.{_≡_, sym, ap, _∙_}
 use mathlib.Core.List.{List}
 use lib.ListN.{length}
+use Rattle.answers.specs.Sizes.{mostFrame}
 use Rattle.run.specs.Read.{Verdict, Reading, reading}
 use Rattle.run.specs.Claims.{Moves}
 use Rattle.run.proofs.Progress.{moves}
@@ -22,5 +23,5 @@ promised {next = next} g a e = record {
 
 -- a call that starts inside the journal moves forward
 pub forward : {j key frame frame' : List ℕ} {place : ℕ} {r : Answer}
-    → LineRead j place key frame r frame' → 353 ≤ length frame → place < length j → Moves j place (r .number) (r .next)
+    → LineRead j place key frame r frame' → mostFrame ≤ length frame → place < length j → Moves j place (r .number) (r .next)
 forward {j} {key} {frame} {frame'} {place} h big l = rw (h .answer) (moves (readText key) (not-end key) (length frame) big j place l)

@@ -6,7 +6,7 @@ use native.Mathlib.Omega.{arith}
 use native.Mathlib.Nat.{add-zero}
 use lib.ListN.{length, take, drop, replicate, length-append}
 use lib.Seq.{take-at, append-snoc}
-use borrow.Author.Tests.{leb-true}
+use Rattle.answers.specs.Sizes.{nonceSize, fixed, mostFrame}
 use Rattle.morus.specs.Bytes.{Bytes}
 use Rattle.morus.specs.Seal.{sealTag}
 use Rattle.morus.proofs.Laws.{tag-length}
@@ -22,14 +22,14 @@ use Rattle.run.proofs.Shift.{read-shift}
 use Rattle.run.proofs.Run.{at-line, one-line}
 use Rattle.run.proofs.Damage.{isolated, shifts}
 use Rattle.journal.specs.Line.{frameOf, lineOf, lineLength, Fits}
-use Rattle.journal.specs.Writer.{writerTests, writerNumber, writing, writeInto}
+use Rattle.journal.specs.Writer.{writerNumber, writing, writeInto}
 use Rattle.journal.specs.Reader.{opened, readText, readAt, run}
 use Rattle.journal.specs.Claims.{handed}
 use Rattle.journal.specs.Promise.{answerOf, LineWritten, LineRead}
-use Rattle.journal.proofs.Tests.{AllPass, zero-pass}
 use Rattle.journal.proofs.Frames.{frame-length}
 use Rattle.journal.proofs.Made.{digits-plain, is-sealed, line-opens}
 use Rattle.journal.proofs.Sizes.{line-size}
+use Rattle.journal.proofs.WriteLine.{writer-pass}
 use Rattle.journal.proofs.Rows.{not-end}
 
 -- ---- what was written
@@ -40,7 +40,7 @@ writing-number line old size zero = refl
 writing-number line old size (suc k) = refl
 
 module _ {key nonce ad message line line' : List ℕ} {r : Line}
-    (len : length nonce ≡ 16) (bn : Bytes nonce) (ba : Bytes ad) (bm : Bytes message)
+    (len : length nonce ≡ nonceSize) (bn : Bytes nonce) (ba : Bytes ad) (bm : Bytes message)
     (w : LineWritten key nonce ad message line r line') (z : r .number ≡ 0) where
   number : writerNumber (length ad) (length message) (length line) ≡ 0
   unfolding writeInto
@@ -49,18 +49,9 @@ module _ {key nonce ad message line line' : List ℕ} {r : Line}
       sym (writing-number (lineOf key nonce ad message) line (lineLength (length ad) (length message)) k) ∙ sym (ap (λ (a : Line). a .number) (w .report)) ∙ z
 
   fits : Fits nonce ad message
-  unfolding writerNumber writerTests
   fits =
-      let tests = writerTests (length ad) (length message) (length line) in
-      let p : AllPass tests = zero-pass tests tt number in
-      record {
-        nonce16 = len;
-        ad64 = leb-true (length ad) 64 (p .0);
-        message256 = leb-true (length message) 256 (p .1 .0);
-        nonceBytes = bn;
-        adBytes = ba;
-        messageBytes = bm;
-      }
+      let g = writer-pass (length ad) (length message) (length line) number in
+      record { nonce16 = len; ad64 = g .few; message256 = g .most; nonceBytes = bn; adBytes = ba; messageBytes = bm }
 
   -- the line stands at the front, and its length was reported
   pub size-is : r .length ≡ length (lineOf key nonce ad message)
@@ -82,7 +73,7 @@ module _ {key nonce ad message line line' : List ℕ} {r : Line}
   plain : Plain (hexOf (frameOf key nonce ad message))
   plain = digits-plain (frameOf key nonce ad message) (is-sealed key nonce ad message fits .bytes)
 
-  module _ (size : ℕ) (big : 353 ≤ size) where
+  module _ (size : ℕ) (big : mostFrame ≤ size) where
     -- from any place at which it stands
     pub read-anywhere : (P T : List ℕ)
         → readAt key (P ++ (take (r .length) line' ++ T)) (length P) size ≡ reading (handed key nonce ad message size) (length P + r .length)
@@ -108,14 +99,14 @@ module _ {key nonce ad message line line' : List ℕ} {r : Line}
         ∙ rw (run-first T, add-zero, shifts (length A + 1) (r .length) (length A + 1 + r .length) (run key T size) refl)
 
   -- by what the reader promises: the same nonce, data and message, and 170 behind them
-  pub handed-out : {frame frame' : List ℕ} {a : Answer} (P T : List ℕ) → 353 ≤ length frame
+  pub handed-out : {frame frame' : List ℕ} {a : Answer} (P T : List ℕ) → mostFrame ≤ length frame
       → LineRead (P ++ (take (r .length) line' ++ T)) (length P) key frame a frame'
       → (a ≡ record { number = 0; next = length P + r .length; n = length ad; m = length message })
-      × (frame' ≡ frameWith nonce ad message (sealTag key nonce ad message) ++ replicate (length frame - (33 + length ad + length message)) 170)
+      × (frame' ≡ frameWith nonce ad message (sealTag key nonce ad message) ++ replicate (length frame - (fixed + length ad + length message)) 170)
   unfolding handed opened
   handed-out {frame} P T big h =
       let t = sealTag key nonce ad message in
-      let k : length (frameWith nonce ad message t) ≡ 33 + length ad + length message = omega (arith, frame-length nonce ad message t, tag-length key nonce ad message) in
+      let k : length (frameWith nonce ad message t) ≡ fixed + length ad + length message = omega (arith, frame-length nonce ad message t, tag-length key nonce ad message) in
       let e = read-anywhere (length frame) big P T in (
         h .answer ∙ ap (λ (x : Reading). answerOf x) e,
         h .buffer ∙ ap (λ (x : Reading). x .verdict .buffer) e ∙ rw k,

@@ -1,26 +1,87 @@
--- The answer to a line's text by the row that gives it, and the answer to its frame: the definitions compute under the tests that lead there.
-use Prim.Native.Nat.{ℕ, zero, suc, _+_, _≤_, _<_}
-use mathlib.Core.Path.{_≡_, refl, sym}
+-- The rows of a line by name, and its answer by the row that gives it: the definitions compute under the tests that lead there.
+use Prim.Native.Nat.{ℕ, zero, suc, _+_, _%_, _≤_, _<_}
+use mathlib.Core.Path.{_≡_, refl, sym, _∙_}
+use mathlib.Core.Bool.{true}
 use mathlib.Core.List.{List, _++_}
 use native.Mathlib.Omega.{arith}
 use lib.ListN.{length, getD, take}
 use lib.Seq.{getD-take, length-take-le}
-use borrow.Author.Tests.{le-leb, lt-leb, leb-true}
-use Rattle.hex.specs.Hex.{unhex}
-use Rattle.journal.specs.Frame.{nIn}
-use Rattle.journal.specs.Tests.{Test, firstFailing}
-use Rattle.run.specs.Read.{refused}
+use borrow.Author.Tests.{le-leb, lt-leb, leb-true, leb-false, eqb-true, eq-eqb}
+use Rattle.answers.specs.Numbers.{lineTooLong, bufferTooSmall, end, numbersBelow}
+use Rattle.answers.specs.Sizes.{nonceSize, fixed, mostData, mostMessage, mostFrame, mostDigits}
+use Rattle.answers.specs.Rows.{Row, firstFailing}
+use Rattle.answers.proofs.Rows.{must, AllPass, first-le, first-not, zero-pass, pass-first, fail-first, pass-both}
+use Rattle.hex.specs.Hex.{allDigits, unhex}
+use Rattle.morus.specs.Seal.{accepts}
+use Rattle.run.specs.Read.{Verdict, refused}
 use Rattle.run.specs.Claims.{NotEnd, Blanks}
-use Rattle.run.proofs.Lines.{refused-blanks}
-use Rattle.journal.specs.Reader.{bufferTests, textTests, frameTests, tagTests, lineTests, opened, given, readFrame, readText}
-use Rattle.journal.proofs.Tests.{AllPass, first-le, first-not, zero-pass, pass-first, fail-first}
+use Rattle.run.proofs.Lines.{refused-blanks, said}
+use Rattle.journal.specs.Frame.{nIn, mIn, nonceIn, adIn, cipherIn, tagIn}
+use Rattle.journal.specs.Reader.{bufferRows, textRows, frameRows, tagRows, lineRows, opened, given, readFrame, readText, readAt}
+
+-- ---- what the rows say where they pass
+
+pub record GoodText (text : List ℕ) : Type 0 where
+  pub short : length text ≤ mostDigits
+  pub digits : allDigits text ≡ true
+  pub even : length text % 2 ≡ 0
+
+pub record GoodFrame (f : List ℕ) : Type 0 where
+  pub least : fixed ≤ length f
+  pub few : nIn f ≤ mostData
+  pub within : fixed + nIn f ≤ length f
+  pub most : mIn f ≤ mostMessage
+
+-- of a text that is opened
+pub record GoodLine (key text : List ℕ) : Type 0 where
+  pub digits : GoodText text
+  pub frame : GoodFrame (unhex text)
+  pub tag : accepts key (nonceIn (unhex text)) (adIn (unhex text)) (cipherIn (unhex text)) (tagIn (unhex text)) ≡ true
+
+good-text : (text : List ℕ) → AllPass (textRows text) → GoodText text
+unfolding textRows
+good-text text (short, (digits, (even, none))) =
+    record { short = omega (arith, leb-true); digits = digits; even = eqb-true (length text % 2) 0 even }
+
+text-good : (text : List ℕ) → GoodText text → AllPass (textRows text)
+unfolding textRows
+text-good text g = (must (λ e. omega (arith, leb-false)), (g .digits, (eq-eqb (length text % 2) 0 (g .even), tt)))
+
+good-frame : (f : List ℕ) → AllPass (frameRows f) → GoodFrame f
+unfolding frameRows
+good-frame f (least, (few, (within, (most, none)))) =
+    record { least = omega (arith, leb-true); few = omega (arith, leb-true); within = omega (arith, leb-true); most = omega (arith, leb-true) }
+
+frame-good : (f : List ℕ) → GoodFrame f → AllPass (frameRows f)
+unfolding frameRows
+frame-good f g =
+    (must (λ e. omega (arith, leb-false)), (must (λ e. omega (arith, leb-false)), (must (λ e. omega (arith, leb-false)), (must (λ e. omega (arith, leb-false)), tt))))
+
+pub text-pass : (text : List ℕ) → firstFailing (textRows text) ≡ 0 → GoodText text
+unfolding textRows
+text-pass text e = good-text text (zero-pass (textRows text) tt e)
+
+pub frame-pass : (f : List ℕ) → firstFailing (frameRows f) ≡ 0 → GoodFrame f
+unfolding frameRows
+frame-pass f e = good-frame f (zero-pass (frameRows f) tt e)
+
+pub line-pass : (key text : List ℕ) (size : ℕ) → firstFailing (lineRows key text size) ≡ 0 → GoodLine key text
+unfolding lineRows bufferRows textRows frameRows tagRows
+line-pass key text size e =
+    let f = unhex text in
+    let all = zero-pass (lineRows key text size) tt e in
+    let behind = pass-both (textRows text) (frameRows f ++ tagRows key f) (pass-both (bufferRows size) (textRows text ++ (frameRows f ++ tagRows key f)) all .1) in
+    let last = pass-both (frameRows f) (tagRows key f) (behind .1) in
+    record { digits = good-text text (behind .0); frame = good-frame f (last .0); tag = last .1 .0 }
+
+-- ---- by the number
 
 -- the rows before the others decide
-given-first : (key f : List ℕ) (size number : ℕ) (a b : List Test) → number ≡ firstFailing a → (number ≡ 0 → ⊥)
+given-first : (key f : List ℕ) (size : ℕ) (a b : List Row) (number : ℕ) → number ≡ firstFailing a → (number ≡ 0 → ⊥)
     → given key f size (firstFailing (a ++ b)) ≡ refused number size
 unfolding given
-given-first key f size zero a b e h = absurd (h refl)
-given-first key f size (suc k) a b e h = rw (fail-first a b k (sym e))
+given-first key f size a b zero e h = absurd (h refl)
+given-first key f size a b (suc k) e h = rw (fail-first a b (λ z. h (e ∙ z)), ← e)
 
 given-number : (key f : List ℕ) (size k : ℕ) → given key f size k .number ≡ k
 unfolding given opened refused
@@ -35,72 +96,81 @@ given-blanks key f size (suc k) = refused-blanks (suc k) size
 -- ---- the text
 
 module _ (key text : List ℕ) (size : ℕ) where
-  pub line-passes : firstFailing (lineTests key text size) ≡ 0 → AllPass (lineTests key text size)
-  unfolding lineTests bufferTests textTests frameTests tagTests
-  line-passes e = zero-pass (lineTests key text size) tt e
-
-  pub text-le : firstFailing (lineTests key text size) ≤ 13
-  unfolding lineTests bufferTests textTests frameTests tagTests
-  text-le = first-le 13 (lineTests key text size) tt
-
-  pub text-number : readText key text size .number ≡ firstFailing (lineTests key text size)
+  pub text-number : readText key text size .number ≡ firstFailing (lineRows key text size)
   unfolding readText
-  text-number = given-number key (unhex text) size (firstFailing (lineTests key text size))
+  text-number = given-number key (unhex text) size (firstFailing (lineRows key text size))
 
   pub text-blanks : Blanks size (readText key text size)
   unfolding readText
-  text-blanks = given-blanks key (unhex text) size (firstFailing (lineTests key text size))
+  text-blanks = given-blanks key (unhex text) size (firstFailing (lineRows key text size))
 
-  pub no-room : size < 353 → readText key text size ≡ refused 13 size
-  unfolding readText lineTests bufferTests firstFailing given
-  no-room h = rw (lt-leb 353 size h)
+  pub no-room : size < mostFrame → readText key text size ≡ refused bufferTooSmall size
+  unfolding readText lineRows bufferRows firstFailing given
+  no-room h = rw (lt-leb mostFrame size h)
 
-  module _ (big : 353 ≤ size) where
-    pub text-fails : (number : ℕ) → number ≡ firstFailing (textTests text) → (number ≡ 0 → ⊥) → readText key text size ≡ refused number size
-    unfolding readText lineTests bufferTests
+  module _ (big : mostFrame ≤ size) where
+    pub text-fails : (number : ℕ) → number ≡ firstFailing (textRows text) → (number ≡ 0 → ⊥) → readText key text size ≡ refused number size
+    unfolding readText lineRows bufferRows
     text-fails number e h =
-        rw (pass-first (bufferTests size) _ (le-leb 353 size big, tt))
-        (given-first key (unhex text) size number (textTests text) (frameTests (unhex text) ++ tagTests key (unhex text)) e h)
+        rw (pass-first (bufferRows size) _ (le-leb mostFrame size big, tt))
+        (given-first key (unhex text) size (textRows text) (frameRows (unhex text) ++ tagRows key (unhex text)) number e h)
 
-    pub too-long : 706 < length text → readText key text size ≡ refused 4 size
-    unfolding textTests firstFailing
-    too-long h = text-fails 4 (rw (lt-leb (length text) 706 h)) (omega arith)
+    pub too-long : mostDigits < length text → readText key text size ≡ refused lineTooLong size
+    unfolding textRows firstFailing
+    too-long h = text-fails lineTooLong (rw (lt-leb (length text) mostDigits h)) (omega arith)
 
-    pub text-passes : AllPass (textTests text) → readText key text size ≡ readFrame key (unhex text) size
-    unfolding readText readFrame lineTests bufferTests
-    text-passes p =
-        rw (pass-first (bufferTests size) _ (le-leb 353 size big, tt), pass-first (textTests text) (frameTests (unhex text) ++ tagTests key (unhex text)) p)
+    pub text-passes : GoodText text → readText key text size ≡ readFrame key (unhex text) size
+    unfolding readText readFrame lineRows bufferRows
+    text-passes g =
+        rw (pass-first (bufferRows size) _ (le-leb mostFrame size big, tt), pass-first (textRows text) (frameRows (unhex text) ++ tagRows key (unhex text)) (text-good text g))
 
 -- the end answer is not one of the reader's
 pub not-end : (key : List ℕ) → NotEnd (readText key)
-unfolding lineTests bufferTests textTests frameTests tagTests
-not-end key text size = rw (text-number key text size) (first-not 14 (lineTests key text size) (omega arith) tt)
+unfolding lineRows bufferRows textRows frameRows tagRows
+not-end key text size = rw (text-number key text size) (first-not end (lineRows key text size) (omega arith) tt)
 
 -- ---- the frame
 
 module _ (key f : List ℕ) (size : ℕ) where
-  pub frame-fails : (number : ℕ) → number ≡ firstFailing (frameTests f) → (number ≡ 0 → ⊥) → readFrame key f size ≡ refused number size
+  pub frame-fails : (number : ℕ) → number ≡ firstFailing (frameRows f) → (number ≡ 0 → ⊥) → readFrame key f size ≡ refused number size
   unfolding readFrame
-  frame-fails number = given-first key f size number (frameTests f) (tagTests key f)
+  frame-fails = given-first key f size (frameRows f) (tagRows key f)
 
-  pub frame-passes : AllPass (frameTests f) → readFrame key f size ≡ given key f size (firstFailing (tagTests key f))
+  pub frame-passes : GoodFrame f → readFrame key f size ≡ given key f size (firstFailing (tagRows key f))
   unfolding readFrame
-  frame-passes p = rw (pass-first (frameTests f) (tagTests key f) p)
+  frame-passes g = rw (pass-first (frameRows f) (tagRows key f) (frame-good f g))
 
-pub frame-pass : (f : List ℕ) → firstFailing (frameTests f) ≡ 0 → AllPass (frameTests f)
-unfolding frameTests
-frame-pass f e = zero-pass (frameTests f) tt e
-
--- what the frame's tests say of the frame at a buffer's front
-pub passed : (b : List ℕ) (count : ℕ) → count ≤ length b → firstFailing (frameTests (take count b)) ≡ 0
-    → (33 + getD b 16 0 ≤ count) × (getD b 16 0 ≤ 64)
-unfolding frameTests
+-- what the frame's rows say of the frame at a buffer's front
+pub passed : (b : List ℕ) (count : ℕ) → count ≤ length b → firstFailing (frameRows (take count b)) ≡ 0
+    → (fixed + getD b nonceSize 0 ≤ count) × (getD b nonceSize 0 ≤ mostData)
 passed b count h e =
     let f = take count b in
-    let p : AllPass (frameTests f) = frame-pass f e in
+    let g = frame-pass f e in
     let l : length f ≡ count = length-take-le count b h in
-    let p₁ = p .0 in
-    let p₂ = p .1 .0 in
-    let p₃ = p .1 .1 .0 in
-    let n : nIn f ≡ getD b 16 0 = getD-take count b 16 0 (omega (arith, leb-true)) in
-    (omega (arith, leb-true), omega (arith, leb-true))
+    let least = g .least in
+    let n : nIn f ≡ getD b nonceSize 0 = getD-take count b nonceSize 0 (omega arith) in
+    (omega arith, omega arith)
+
+-- ---- how large what is said can be: of an opened line the rows have passed
+
+pub record Small (v : Verdict) : Type 0 where
+  pub number : v .number < numbersBelow
+  pub n : v .n ≤ mostData
+  pub m : v .m ≤ mostMessage
+
+refused-small : (k size : ℕ) → k < numbersBelow → Small (refused k size)
+unfolding refused
+refused-small k size h = record { number = h; n = omega arith; m = omega arith }
+
+given-small : (key f : List ℕ) (size k : ℕ) → k < numbersBelow → (k ≡ 0 → GoodFrame f) → Small (given key f size k)
+unfolding given opened
+given-small key f size zero h g = record { number = omega arith; n = g refl .few; m = g refl .most }
+given-small key f size (suc k) h g = refused-small (suc k) size h
+
+text-small : (key text : List ℕ) (size : ℕ) → Small (readText key text size)
+unfolding readText lineRows bufferRows textRows frameRows tagRows
+text-small key text size =
+    given-small key (unhex text) size (firstFailing (lineRows key text size)) (omega (arith, first-le 99 (lineRows key text size) tt)) (λ z. line-pass key text size z .frame)
+
+pub read-small : (key j : List ℕ) (place size : ℕ) → Small (readAt key j place size .verdict)
+read-small key j place size = said (readText key) j place size Small (λ k l. refused-small k size l) (λ t. text-small key t size)

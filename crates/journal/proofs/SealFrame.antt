@@ -6,6 +6,7 @@ use native.Mathlib.Omega.{arith}
 use lib.ListN.{length, drop, set, length-append}
 use lib.Seq.{paste, take-length, drop-append-add, drop-drop, drop-cons, set-append-seam, append-snoc, drop-append-seam, take-append-seam}
 use borrow.Rule.Slice.PartMut.{midOf, putMid}
+use Rattle.answers.specs.Sizes.{dataAt, fixed, mostData, mostMessage, mostFrame}
 use Rattle.morus.specs.Seal.{seal, sealTag}
 use Rattle.morus.specs.Morus.{begun, Encrypted}
 use Rattle.morus.specs.declared.Morus.{Morus}
@@ -52,16 +53,16 @@ whole b nonce ad c t k e =
 -- the steps of the sealing, each from the one before it
 pub seal-steps : (b key nonce ad message : List ℕ) {w : Morus} {r : Sealed} {f₁ f₂ f₃ f₄ y : List ℕ}
     → length nonce ≡ 16
-    → length ad ≤ 64
-    → length message ≤ 256
-    → 353 ≤ length b
+    → length ad ≤ mostData
+    → length message ≤ mostMessage
+    → mostFrame ≤ length b
     → f₁ ≡ paste b 0 nonce 16
-    → f₂ ≡ paste (set f₁ 16 (length ad)) 17 ad (length ad)
-    → f₃ ≡ paste f₂ (17 + length ad) message (length message)
+    → f₂ ≡ paste (set f₁ 16 (length ad)) dataAt ad (length ad)
+    → f₃ ≡ paste f₂ (dataAt + length ad) message (length message)
     → w ≡ begun nonce key
-    → Encrypted w ad (midOf (17 + length ad) (17 + length ad + length message - (17 + length ad)) f₃) r y
-    → f₄ ≡ paste (putMid (17 + length ad) (17 + length ad + length message - (17 + length ad)) f₃ y) (17 + length ad + length message) (r .tag) 16
-    → f₄ ≡ frameOf key nonce ad message ++ drop (33 + length ad + length message) b
+    → Encrypted w ad (midOf (dataAt + length ad) (dataAt + length ad + length message - (dataAt + length ad)) f₃) r y
+    → f₄ ≡ paste (putMid (dataAt + length ad) (dataAt + length ad + length message - (dataAt + length ad)) f₃ y) (dataAt + length ad + length message) (r .tag) 16
+    → f₄ ≡ frameOf key nonce ad message ++ drop (fixed + length ad + length message) b
 seal-steps b key nonce ad message {w} {r} {f₁} {f₂} {f₃} {f₄} {y} len few short room h₁ h₂ h₃ begins said h₄ =
     let p = nonce ++ (length ad ∷ []) in
     let q = p ++ ad in
@@ -69,16 +70,16 @@ seal-steps b key nonce ad message {w} {r} {f₁} {f₂} {f₃} {f₄} {y} len fe
     let t = sealTag key nonce ad message in
     let n = length ad in
     let m = length message in
-    let lp : 17 ≡ length p = omega (arith, length-append nonce (n ∷ [])) in
-    let lq : 17 + n ≡ length q = omega (arith, length-append p ad) in
-    let lm : 17 + n + m - (17 + n) ≡ m = omega arith in
+    let lp : dataAt ≡ length p = omega (arith, length-append nonce (n ∷ [])) in
+    let lq : dataAt + n ≡ length q = omega (arith, length-append p ad) in
+    let lm : dataAt + n + m - (dataAt + n) ≡ m = omega arith in
     let lc : length c ≡ m = seal-length key nonce ad message in
-    let lqc : 17 + n + m ≡ length (q ++ c) = omega (arith, length-append q c) in
+    let lqc : dataAt + n + m ≡ length (q ++ c) = omega (arith, length-append q c) in
     let lt : length t ≡ 16 = tag-length key nonce ad message in
     let e₁ : f₁ ≡ on b nonce = h₁ ∙ rw (← len, take-length nonce) in
     let e₂ : f₂ ≡ on b q = h₂ ∙ rw (e₁, ← len, set-on b nonce n (omega arith), lp) (copy-on b p ad) in
     let e₃ : f₃ ≡ on b (q ++ message) = h₃ ∙ rw (e₂, lq) (copy-on b q message) in
-    let x : midOf (17 + n) (17 + n + m - (17 + n)) f₃ ≡ message = rw (lm, e₃, lq) (mid-on b q message) in
+    let x : midOf (dataAt + n) (dataAt + n + m - (dataAt + n)) f₃ ≡ message = rw (lm, e₃, lq) (mid-on b q message) in
     let E = encrypted nonce key (same-call begins x said) (omega arith) (omega arith) in
-    let e₄ : putMid (17 + n) (17 + n + m - (17 + n)) f₃ y ≡ on b (q ++ c) = rw (lm, e₃, lq, E .2) (put-on b q message c lc) in
-    h₄ ∙ rw (e₄, E .1, ← lt, lqc) (copy-on b (q ++ c) t) ∙ whole b nonce ad c t (33 + n + m) (omega (arith, frame-length nonce ad c t))
+    let e₄ : putMid (dataAt + n) (dataAt + n + m - (dataAt + n)) f₃ y ≡ on b (q ++ c) = rw (lm, e₃, lq, E .2) (put-on b q message c lc) in
+    h₄ ∙ rw (e₄, E .1, ← lt, lqc) (copy-on b (q ++ c) t) ∙ whole b nonce ad c t (fixed + n + m) (omega (arith, frame-length nonce ad c t))

@@ -4,6 +4,7 @@ use mathlib.Core.Path.{_≡_}
 use mathlib.Core.List.{List, [], _∷_}
 use native.Mathlib.Omega.{arith}
 use lib.ListN.{length, length-append}
+use Rattle.answers.specs.Sizes.{nonceSize, fixed}
 use Rattle.morus.specs.Seal.{seal, sealTag}
 use Rattle.morus.proofs.Laws.{seal-length, tag-length}
 use Rattle.hex.specs.Hex.{hexOf}
@@ -12,8 +13,8 @@ use Rattle.run.specs.Line.{newline}
 use Rattle.journal.specs.Line.{frameOf, lineOf, lineLength}
 use Rattle.journal.proofs.Frames.{frame-length}
 
-module _ (key nonce ad message : List ℕ) (nonce16 : length nonce ≡ 16) where
-  pub frame-size : length (frameOf key nonce ad message) ≡ 33 + length ad + length message
+module _ (key nonce ad message : List ℕ) (nonce16 : length nonce ≡ nonceSize) where
+  pub frame-size : length (frameOf key nonce ad message) ≡ fixed + length ad + length message
   frame-size =
       omega (arith, frame-length nonce ad (seal key nonce ad message) (sealTag key nonce ad message), seal-length key nonce ad message, tag-length key nonce ad message)
 

@@ -1,6 +1,5 @@
 pub mod Frame
 pub mod Line
-pub mod Tests
 pub mod Writer
 pub mod Reader
 pub mod Claims

@@ -3,6 +3,7 @@ use Prim.Native.Nat.{ℕ, _+_, _*_, _≤_}
 use mathlib.Core.Path.{_≡_}
 use mathlib.Core.List.{List, [], _∷_, _++_}
 use lib.ListN.{length}
+use Rattle.answers.specs.Sizes.{nonceSize, fixed, mostData, mostMessage}
 use Rattle.morus.specs.Bytes.{Bytes}
 use Rattle.morus.specs.Seal.{seal, sealTag}
 use Rattle.hex.specs.Hex.{hexOf}
@@ -17,13 +18,13 @@ lineOf key nonce ad message = hexOf (frameOf key nonce ad message) ++ (newline �
 
 -- its length, by n and m
 abbrev pub lineLength : (n m : ℕ) → ℕ
-lineLength n m = 2 * (33 + n + m) + 1
+lineLength n m = 2 * (fixed + n + m) + 1
 
 -- bytes within the sizes
 pub record Fits (nonce ad message : List ℕ) : Type 0 where
-  pub nonce16 : length nonce ≡ 16
-  pub ad64 : length ad ≤ 64
-  pub message256 : length message ≤ 256
+  pub nonce16 : length nonce ≡ nonceSize
+  pub ad64 : length ad ≤ mostData
+  pub message256 : length message ≤ mostMessage
   pub nonceBytes : Bytes nonce
   pub adBytes : Bytes ad
   pub messageBytes : Bytes message

@@ -3,6 +3,9 @@ use Prim.Native.Nat.{ℕ, zero, suc, _+_, _-_, _%_}
 use mathlib.Core.List.{List, [], _∷_, _++_}
 use lib.ListN.{length, replicate}
 use lib.Dec.{leb, eqb}
+use Rattle.answers.specs.Numbers.{done, tagDiffers, lineTooLong, notDigit, odd, frameTooShort, dataTooLong, dataPastFrame, messageTooLong, bufferTooSmall}
+use Rattle.answers.specs.Sizes.{fill, fixed, mostData, mostMessage, mostFrame, mostDigits}
+use Rattle.answers.specs.Rows.{Row, _else_, firstFailing}
 use Rattle.morus.specs.Seal.{unseal, accepts}
 use Rattle.hex.specs.Hex.{allDigits, unhex}
 use Rattle.run.specs.Read as Read
@@ -10,30 +13,34 @@ use Rattle.run.specs.Read.{Verdict, Reader, Reading, refused}
 use Rattle.run.specs.Run as Run
 use Rattle.run.specs.Run.{Entry}
 use Rattle.journal.specs.Frame.{frameWith, nIn, mIn, nonceIn, adIn, cipherIn, tagIn}
-use Rattle.journal.specs.Tests.{Test, firstFailing}
 
 -- the front, then 0xaa to the end
 unfoldable pub opened : (n m size : ℕ) → (front : List ℕ) → Verdict
-opened n m size front = record { number = 0; n = n; m = m; buffer = front ++ replicate (size - length front) 0xaa }
+opened n m size front = record { number = done; n = n; m = m; buffer = front ++ replicate (size - length front) fill }
 
 -- ---- the text of one line
 
-unfoldable pub bufferTests : (size : ℕ) → List Test
-bufferTests size = (leb 353 size, 13) ∷ []
+unfoldable pub bufferRows : (size : ℕ) → List Row
+bufferRows size = (leb mostFrame size else bufferTooSmall) ∷ []
 
-unfoldable pub textTests : (text : List ℕ) → List Test
-textTests text = (leb (length text) 706, 4) ∷ (allDigits text, 5) ∷ (eqb (length text % 2) 0, 6) ∷ []
+unfoldable pub textRows : (text : List ℕ) → List Row
+textRows text =
+    (leb (length text) mostDigits else lineTooLong) ∷ (allDigits text else notDigit) ∷ (eqb (length text % 2) 0 else odd) ∷ []
 
-unfoldable pub frameTests : (f : List ℕ) → List Test
-frameTests f =
-    (leb 33 (length f), 7) ∷ (leb (nIn f) 64, 8) ∷ (leb (33 + nIn f) (length f), 9) ∷ (leb (mIn f) 256, 10) ∷ []
+unfoldable pub frameRows : (f : List ℕ) → List Row
+frameRows f =
+    (leb fixed (length f) else frameTooShort)
+    ∷ (leb (nIn f) mostData else dataTooLong)
+    ∷ (leb (fixed + nIn f) (length f) else dataPastFrame)
+    ∷ (leb (mIn f) mostMessage else messageTooLong)
+    ∷ []
 
-unfoldable pub tagTests : (key f : List ℕ) → List Test
-tagTests key f = (accepts key (nonceIn f) (adIn f) (cipherIn f) (tagIn f), 1) ∷ []
+unfoldable pub tagRows : (key f : List ℕ) → List Row
+tagRows key f = (accepts key (nonceIn f) (adIn f) (cipherIn f) (tagIn f) else tagDiffers) ∷ []
 
 -- the reader's order
-unfoldable pub lineTests : (key text : List ℕ) → (size : ℕ) → List Test
-lineTests key text size = bufferTests size ++ (textTests text ++ (frameTests (unhex text) ++ tagTests key (unhex text)))
+unfoldable pub lineRows : (key text : List ℕ) → (size : ℕ) → List Row
+lineRows key text size = bufferRows size ++ (textRows text ++ (frameRows (unhex text) ++ tagRows key (unhex text)))
 
 -- the frame with the message where the ciphertext stood
 unfoldable pub openedFrame : (key f : List ℕ) → List ℕ
@@ -46,14 +53,14 @@ given key f size (suc k) = refused (suc k) size
 
 -- a frame whose sizes are right
 abbrev pub openFrame : (key f : List ℕ) → (size : ℕ) → Verdict
-openFrame key f size = given key f size (firstFailing (tagTests key f))
+openFrame key f size = given key f size (firstFailing (tagRows key f))
 
 -- a frame whose digits have been read
 unfoldable pub readFrame : (key f : List ℕ) → (size : ℕ) → Verdict
-readFrame key f size = given key f size (firstFailing (frameTests f ++ tagTests key f))
+readFrame key f size = given key f size (firstFailing (frameRows f ++ tagRows key f))
 
 unfoldable pub readText : (key : List ℕ) → Reader
-readText key text size = given key (unhex text) size (firstFailing (lineTests key text size))
+readText key text size = given key (unhex text) size (firstFailing (lineRows key text size))
 
 -- ---- a place of the journal, and the journal from the start
 

@@ -3,13 +3,15 @@ use Prim.Native.Nat.{ℕ, zero, suc, _+_}
 use mathlib.Core.List.{List, [], _∷_, _++_}
 use lib.ListN.{length, drop}
 use lib.Dec.{leb}
+use Rattle.answers.specs.Numbers.{done, dataTooLong, messageTooLong, lineTooSmall}
+use Rattle.answers.specs.Sizes.{fixed, mostData, mostMessage}
+use Rattle.answers.specs.Rows.{Row, _else_, firstFailing}
 use Rattle.journal.specs.declared.Line.{Line}
 use Rattle.journal.specs.Line.{frameOf, lineOf, lineLength}
-use Rattle.journal.specs.Tests.{Test, firstFailing}
 
 -- the sealed frame at the front of a buffer
 abbrev pub frameInto : (key nonce ad message old : List ℕ) → List ℕ
-frameInto key nonce ad message old = frameOf key nonce ad message ++ drop (33 + length ad + length message) old
+frameInto key nonce ad message old = frameOf key nonce ad message ++ drop (fixed + length ad + length message) old
 
 -- the report, and the line buffer afterwards
 pub record Writing : Type 0 where
@@ -17,15 +19,16 @@ pub record Writing : Type 0 where
   pub buffer : List ℕ
 
 -- the writer's order, for a line buffer of `room` bytes
-unfoldable pub writerTests : (n m room : ℕ) → List Test
-writerTests n m room = (leb n 64, 8) ∷ (leb m 256, 10) ∷ (leb (lineLength n m) room, 15) ∷ []
+unfoldable pub writerRows : (n m room : ℕ) → List Row
+writerRows n m room =
+    (leb n mostData else dataTooLong) ∷ (leb m mostMessage else messageTooLong) ∷ (leb (lineLength n m) room else lineTooSmall) ∷ []
 
 unfoldable pub writerNumber : (n m room : ℕ) → ℕ
-writerNumber n m room = firstFailing (writerTests n m room)
+writerNumber n m room = firstFailing (writerRows n m room)
 
 -- by the number
 unfoldable pub writing : (line old : List ℕ) → (size number : ℕ) → Writing
-writing line old size zero = record { report = record { number = 0; length = size }; buffer = line ++ drop size old }
+writing line old size zero = record { report = record { number = done; length = size }; buffer = line ++ drop size old }
 writing line old size (suc k) = record { report = record { number = suc k; length = 0 }; buffer = old }
 
 unfoldable pub writeInto : (key nonce ad message old : List ℕ) → Writing

@@ -1,10 +1,11 @@
 // Bytes in buffers: a copy, sixteen bytes out, and 0xaa to the end.
-use crate::numbers;
+use answers::sizes;
 ghost use mathlib.Core.Path.{_≡_};
 ghost use Prim.Native.Nat.{_+_, _-_, _≤_};
 ghost use mathlib.Core.List.{_++_};
 ghost use lib.ListN.{length, take, drop, replicate};
 ghost use lib.Seq.{paste};
+ghost use Rattle.answers.specs.Sizes.{fill};
 
 // `n` bytes of `src`, from byte `from` on, over those of `dst` from byte `at` on.
 pub(crate) fn copy(dst: &mut [u8], at: usize, src: &[u8], from: usize, n: usize)
@@ -30,11 +31,11 @@ pub(crate) fn sixteen(src: &[u8], from: usize) -> [u8; 16]
 
 pub(crate) fn fill(buffer: &mut [u8], from: usize)
     requires { ⌜ from ≤ length (now buffer) ⌝ }
-    ensures { λ _. ⌜ now (buffer .exit) ≡ take from (now (buffer .entry)) ++ replicate (length (now (buffer .entry)) - from) 0xaa ⌝ }
+    ensures { λ _. ⌜ now (buffer .exit) ≡ take from (now (buffer .entry)) ++ replicate (length (now (buffer .entry)) - from) fill ⌝ }
 {
     let mut i = from;
     while i < buffer.len() {
-        buffer[i] = numbers::FILL;
+        buffer[i] = sizes::FILL;
         i += 1;
     }
 }

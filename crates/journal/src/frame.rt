@@ -3,52 +3,54 @@ use crate::Verdict;
 use crate::bytes::copy;
 use crate::bytes::fill;
 use crate::bytes::sixteen;
-use crate::numbers;
 use crate::refusal::refuse;
+use answers::numbers;
+use answers::sizes;
 use morus::Key;
 use morus::Morus;
 use morus::Nonce;
 ghost use mathlib.Core.Path.{_≡_};
 ghost use Prim.Native.Nat.{_+_, _≤_};
 ghost use lib.ListN.{length, getD, take};
-ghost use Rattle.journal.specs.Tests.{firstFailing};
+ghost use Rattle.answers.specs.Sizes.{nonceSize, fixed, mostData, mostMessage, mostFrame};
+ghost use Rattle.answers.specs.Rows.{firstFailing};
 ghost use Rattle.journal.specs.Writer.{frameInto};
-ghost use Rattle.journal.specs.Reader.{frameTests, openFrame, readFrame};
+ghost use Rattle.journal.specs.Reader.{frameRows, openFrame, readFrame};
 ghost use Rattle.journal.specs.Promise.{Gives};
 
 // The sealed frame, at the front of the buffer.
 pub(crate) fn seal_frame(key: Key, nonce: Nonce, data: &[u8], message: &[u8], frame: &mut [u8])
-    requires { ⌜ (length (now «data») ≤ 64) × (length (now message) ≤ 256) × (353 ≤ length (now frame)) ⌝ }
+    requires { ⌜ (length (now «data») ≤ mostData) × (length (now message) ≤ mostMessage) × (mostFrame ≤ length (now frame)) ⌝ }
     ensures { λ _. ⌜ now (frame .exit) ≡ frameInto key nonce (now («data» .entry)) (now (message .entry)) (now (frame .entry)) ⌝ }
 {
     let n = data.len();
     let m = message.len();
-    let start = 17 + n;
+    let start = sizes::DATA_AT + n;
     let end = start + m;
-    copy(frame, 0, &nonce, 0, 16);
-    frame[16] = n as u8;
-    copy(frame, 17, data, 0, n);
+    copy(frame, 0, &nonce, 0, sizes::NONCE);
+    frame[sizes::NONCE] = n as u8;
+    copy(frame, sizes::DATA_AT, data, 0, n);
     copy(frame, start, message, 0, m);
     let sealed = Morus::new(nonce, key).encrypt_in_place(&mut frame[start..end], data);
     let tag = sealed.tag;
-    copy(frame, end, &tag, 0, 16);
+    copy(frame, end, &tag, 0, sizes::TAG);
 }
 
 // The number of the first of the frame's tests that fails, or 0.
 fn frame_number(frame: &[u8]) -> u8
-    ensures { λ r. ⌜ r ≡ firstFailing (frameTests (now (frame .entry))) ⌝ }
+    ensures { λ r. ⌜ r ≡ firstFailing (frameRows (now (frame .entry))) ⌝ }
 {
-    if frame.len() < numbers::FIXED {
+    if frame.len() < sizes::FIXED {
         return numbers::FRAME_TOO_SHORT;
     }
-    let n = frame[16] as usize;
-    if numbers::MOST_DATA < n {
+    let n = frame[sizes::NONCE] as usize;
+    if sizes::MOST_DATA < n {
         return numbers::DATA_TOO_LONG;
     }
-    if frame.len() < numbers::FIXED + n {
+    if frame.len() < sizes::FIXED + n {
         return numbers::DATA_PAST_FRAME;
     }
-    if numbers::MOST_MESSAGE < frame.len() - (numbers::FIXED + n) {
+    if sizes::MOST_MESSAGE < frame.len() - (sizes::FIXED + n) {
         return numbers::MESSAGE_TOO_LONG;
     }
     numbers::DONE
@@ -56,17 +58,17 @@ fn frame_number(frame: &[u8]) -> u8
 
 // The frame at the buffer's front, whose tests have passed, is opened where it stands.
 fn open_frame(count: usize, key: Key, frame: &mut [u8]) -> Verdict
-    requires { ⌜ (count ≤ 353) × (353 ≤ length (now frame)) × (33 + getD (now frame) 16 0 ≤ count) × (getD (now frame) 16 0 ≤ 64) ⌝ }
+    requires { ⌜ (count ≤ mostFrame) × (mostFrame ≤ length (now frame)) × (fixed + getD (now frame) nonceSize 0 ≤ count) × (getD (now frame) nonceSize 0 ≤ mostData) ⌝ }
     ensures { λ r. ⌜ Gives (openFrame key (take count (now (frame .entry))) (length (now (frame .entry)))) r (now (frame .exit)) ⌝ }
 {
-    let n = frame[16] as usize;
-    let start = 17 + n;
-    let end = count - 16;
+    let n = frame[sizes::NONCE] as usize;
+    let start = sizes::DATA_AT + n;
+    let end = count - sizes::TAG;
     let nonce = sixteen(frame, 0);
     let tag = sixteen(frame, end);
     // The data is copied, since the buffer cannot be lent twice at a time.
-    let mut data = [0u8; numbers::MOST_DATA];
-    copy(&mut data, 0, frame, 17, n);
+    let mut data = [0u8; sizes::MOST_DATA];
+    copy(&mut data, 0, frame, sizes::DATA_AT, n);
     let number = Morus::new(nonce, key).decrypt_in_place(&mut frame[start..end], tag, &data[..n]);
     if number != numbers::DONE {
         return refuse(number, frame);
@@ -81,7 +83,7 @@ fn open_frame(count: usize, key: Key, frame: &mut [u8]) -> Verdict
 
 // The verdict on the frame of `count` bytes at the buffer's front.
 pub(crate) fn read_frame(count: usize, key: Key, frame: &mut [u8]) -> Verdict
-    requires { ⌜ (count ≤ 353) × (353 ≤ length (now frame)) ⌝ }
+    requires { ⌜ (count ≤ mostFrame) × (mostFrame ≤ length (now frame)) ⌝ }
     ensures { λ r. ⌜ Gives (readFrame key (take count (now (frame .entry))) (length (now (frame .entry)))) r (now (frame .exit)) ⌝ }
 {
     let number = frame_number(&frame[..count]);

@@ -1,7 +1,6 @@
 // The line journal: sealed frames in lowercase hexadecimal, one to a line.
 mod bytes;
 mod frame;
-mod numbers;
 mod reader;
 mod refusal;
 mod text;

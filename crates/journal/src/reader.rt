@@ -1,9 +1,10 @@
 // Reading at a place of the journal: where the line ends, and where to go on.
 use crate::Answer;
 use crate::Verdict;
-use crate::numbers;
 use crate::refusal::refuse;
 use crate::text::read_text;
+use answers::numbers;
+use answers::sizes;
 use morus::Key;
 ghost use mathlib.Core.Path.{_≡_};
 ghost use Prim.Native.Nat.{_+_, _≤_};
@@ -21,7 +22,7 @@ fn find_newline(journal: &[u8], place: usize) -> usize
         if i == journal.len() {
             break journal.len();
         }
-        if journal[i] == numbers::NEWLINE {
+        if journal[i] == b'\n' {
             break i;
         }
         i += 1;
@@ -45,7 +46,7 @@ fn answer(v: Verdict, next: usize) -> Answer
 pub fn read_line(journal: &[u8], place: usize, key: Key, frame: &mut [u8]) -> Answer
     ensures { λ r. ⌜ LineRead (now (journal .entry)) place key (now (frame .entry)) r (now (frame .exit)) ⌝ }
 {
-    if frame.len() < numbers::MOST_FRAME {
+    if frame.len() < sizes::MOST_FRAME {
         return answer(refuse(numbers::BUFFER_TOO_SMALL, frame), place);
     }
     if journal.len() < place {

@@ -1,8 +1,9 @@
 // The text of one line: digits, and the frame that they say.
 use crate::Verdict;
 use crate::frame::read_frame;
-use crate::numbers;
 use crate::refusal::refuse;
+use answers::numbers;
+use answers::sizes;
 use hex::Read;
 use morus::Key;
 ghost use Rattle.journal.specs.Promise.{TextRead};
@@ -11,17 +12,17 @@ ghost use Rattle.journal.specs.Promise.{TextRead};
 pub fn read_text(text: &[u8], key: Key, frame: &mut [u8]) -> Verdict
     ensures { λ r. ⌜ TextRead (now (text .entry)) key (now (frame .entry)) r (now (frame .exit)) ⌝ }
 {
-    if frame.len() < numbers::MOST_FRAME {
+    if frame.len() < sizes::MOST_FRAME {
         return refuse(numbers::BUFFER_TOO_SMALL, frame);
     }
-    if numbers::MOST_DIGITS < text.len() {
+    if sizes::MOST_DIGITS < text.len() {
         return refuse(numbers::LINE_TOO_LONG, frame);
     }
     match hex::read(text, frame) {
         Read::Bytes(count) => read_frame(count, key, frame),
         Read::NotDigit => refuse(numbers::NOT_DIGIT, frame),
         Read::Odd => refuse(numbers::ODD, frame),
-        // Never: a text of 706 digits is 353 bytes.
+        // Never: a text that is not too long has no more bytes than the longest frame.
         Read::NoRoom => refuse(numbers::BUFFER_TOO_SMALL, frame),
     }
 }

@@ -10,6 +10,7 @@ use lib.ListN.{length, take, drop, set, length-append, length-drop}
 use lib.Seq.{drop-cons, getD-set-same, drop-set-lt, append-snoc, lt-length-set, take-all}
 use lib.Dec.{ltb}
 use borrow.Author.Tests.{lt-ltb, le-ltb, ltb-true, ltb-false}
+use Rattle.listing.specs.Sizes.{wordDigits}
 use Rattle.listing.specs.Decimal.{decimalIn, decimal}
 
 counts : (k k′ n : ℕ) → n < k → n < k′ → decimalIn k n ≡ decimalIn k′ n
@@ -43,8 +44,8 @@ decimal-length (suc k) n h = go (ltb n 10) refl (decimal-length k (n / 10))
         rw (decimal-more n (ltb-false n 10 e), length-append) (omega (arith, ih (omega (arith, pow-suc 10 (suc k)))))
 
 -- a word of the machine has at most twenty
-pub decimal-fits : (n : ℕ) → n < 2 ^ 64 → length (decimal n) ≤ 20
-decimal-fits n h = decimal-length 19 n (omega arith)
+pub decimal-fits : (n : ℕ) → n < 2 ^ 64 → length (decimal n) ≤ wordDigits
+decimal-fits n h = decimal-length (wordDigits - 1) n (omega arith)
 
 -- ---- what the loop that spells needs
 
@@ -71,5 +72,5 @@ pub last-put : (digits : List ℕ) (i rest : ℕ) → i < length digits → rest
 last-put digits i rest l t = rw (set-here digits i (48 + rest) l, decimal-one rest t)
 
 -- the digits, as the rest of the array
-pub tail-is : (digits : List ℕ) (from n : ℕ) → length digits ≡ 20 → drop from digits ≡ decimal n → take (20 - from) (drop from digits) ≡ decimal n
-tail-is digits from n l e = take-all (20 - from) (drop from digits) (omega (arith, length-drop from digits)) ∙ e
+pub tail-is : (digits : List ℕ) (from n : ℕ) → length digits ≡ wordDigits → drop from digits ≡ decimal n → take (wordDigits - from) (drop from digits) ≡ decimal n
+tail-is digits from n l e = take-all (wordDigits - from) (drop from digits) (omega (arith, length-drop from digits)) ∙ e

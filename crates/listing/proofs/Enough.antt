@@ -8,22 +8,23 @@ use lib.ListN.{length, take, drop, length-drop}
 use lib.Seq.{take-all, take-take, getD-take, length-take-le}
 use lib.Dec.{leb}
 use borrow.Author.Tests.{le-leb, lt-leb, leb-true, leb-false}
+use Rattle.listing.specs.Sizes.{keyDigits, keyLineSize, mostJournal, enoughInput}
 use Rattle.listing.specs.KeyLine.{goodKey}
-use Rattle.listing.specs.Listing.{listing, mostJournal}
+use Rattle.listing.specs.Listing.{listing}
 
-module _ (input : List ℕ) (n : ℕ) (h : 60034 ≤ n) where
+module _ (input : List ℕ) (n : ℕ) (h : enoughInput ≤ n) where
   cut : n < length input → listing (take n input) ≡ listing input
   unfolding listing goodKey
   cut l =
       let k = length-take-le n input (omega arith) in
       rw (
         k,
-        le-leb 33 n (omega arith),
-        le-leb 33 (length input) (omega arith),
-        getD-take n input 32 0 (omega arith),
-        take-take 32 n input (omega arith),
-        lt-leb (length (drop 33 (take n input))) mostJournal (omega (arith, k, length-drop 33 (take n input))),
-        lt-leb (length (drop 33 input)) mostJournal (omega (arith, length-drop 33 input)),
+        le-leb keyLineSize n (omega arith),
+        le-leb keyLineSize (length input) (omega arith),
+        getD-take n input keyDigits 0 (omega arith),
+        take-take keyDigits n input (omega arith),
+        lt-leb (length (drop keyLineSize (take n input))) mostJournal (omega (arith, k, length-drop keyLineSize (take n input))),
+        lt-leb (length (drop keyLineSize input)) mostJournal (omega (arith, length-drop keyLineSize input)),
       )
 
   pub enough : listing (take n input) ≡ listing input

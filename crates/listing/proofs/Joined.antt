@@ -13,9 +13,12 @@ use Rattle.run.specs.Read.{Reading}
 use Rattle.run.specs.Run.{Entry, entry, run}
 use Rattle.journal.specs.Reader.{readAt, runFrom}
 use Rattle.listing.specs.declared.report.Piece.{Piece}
+use Rattle.answers.specs.Numbers.{end}
+use Rattle.answers.specs.Sizes.{mostFrame}
+use Rattle.listing.specs.Sizes.{mostJournal}
 use Rattle.listing.specs.Text.{answerText}
 use Rattle.listing.specs.KeyLine.{goodKey, keyOf, journalOf}
-use Rattle.listing.specs.Listing.{answers, listing, badKey, tooBig, mostJournal, frameSize}
+use Rattle.listing.specs.Listing.{answers, listing, badKey, tooBig}
 use Rattle.listing.specs.Pieces.{Part, part, alone, answersFrom, parts, front, rest, firstPlace, none}
 use Rattle.listing.specs.Promise.{PieceFilled}
 use Rattle.listing.specs.Claims.{Written, last, more}
@@ -55,15 +58,15 @@ module _ (key j : List ℕ) (given : ℕ) where
       → Left (answersFrom key j) given p (length j) (rest room (answersFrom key j p))
   unfolding rest
   behind zero p room h l = absurd (omega arith)
-  behind (suc k) p room h l = rw (step key j p h .splits) (go (leb (length (answerText (entry p x))) room) (eqb (x .verdict .number) 14) refl (behind k (x .next)))
+  behind (suc k) p room h l = rw (step key j p h .splits) (go (leb (length (answerText (entry p x))) room) (eqb (x .verdict .number) end) refl (behind k (x .next)))
     where
       x : Reading
-      x = readAt key j p frameSize
+      x = readAt key j p mostFrame
 
       tail : Bool → List Part
       tail e = cond e [] (answersFrom key j (x .next))
 
-      go : (b e : Bool) → eqb (x .verdict .number) 14 ≡ e
+      go : (b e : Bool) → eqb (x .verdict .number) end ≡ e
           → ((room : ℕ) → x .next ≤ length j → length j < k + x .next → none (rest room (answersFrom key j (x .next))) ≡ false
           → Left (answersFrom key j) given (x .next) (length j) (rest room (answersFrom key j (x .next))))
           → none (cond b (rest (room - length (answerText (entry p x))) (tail e)) (part (entry p x) ∷ tail e)) ≡ false
@@ -144,9 +147,9 @@ whole input = go (goodKey input) (leb (length (journalOf input)) mostJournal)
     j : List ℕ
     j = journalOf input
 
-    go : (g b : Bool) → texts (cond g (cond b (cond (leb 0 (length j)) (map part (runFrom (keyOf input) j frameSize (suc (length j)) 0)) []) (alone 0 tooBig)) (alone 0 badKey))
-        ≡ cond g (cond b (answers (runFrom (keyOf input) j frameSize (suc (length j)) 0)) tooBig) badKey
-    go true true = rw (le-leb 0 (length j) (omega arith)) (texts-answers (runFrom (keyOf input) j frameSize (suc (length j)) 0))
+    go : (g b : Bool) → texts (cond g (cond b (cond (leb 0 (length j)) (map part (runFrom (keyOf input) j mostFrame (suc (length j)) 0)) []) (alone 0 tooBig)) (alone 0 badKey))
+        ≡ cond g (cond b (answers (runFrom (keyOf input) j mostFrame (suc (length j)) 0)) tooBig) badKey
+    go true true = rw (le-leb 0 (length j) (omega arith)) (texts-answers (runFrom (keyOf input) j mostFrame (suc (length j)) 0))
     go true false = refl
     go false b = refl
 

@@ -4,7 +4,7 @@ pub mod Digits
 pub mod Hex
 pub mod KeyLine
 pub mod Shown
-pub mod Small
+pub mod Spaced
 pub mod Lengths
 pub mod Steps
 pub mod Gathered

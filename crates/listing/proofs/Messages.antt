@@ -16,21 +16,25 @@ use Rattle.journal.specs.Line.{Made}
 use Rattle.journal.specs.Reader.{opened, readAt}
 use Rattle.journal.specs.Claims.{handed}
 use Rattle.journal.proofs.Opened.{hands-out}
-use Rattle.listing.specs.Text.{space, numbers, messageIn, shown, answerText}
-use Rattle.listing.specs.Listing.{frameSize}
+use Rattle.answers.specs.Numbers.{done}
+use Rattle.answers.specs.Sizes.{mostFrame, dataAt}
+use Rattle.listing.specs.Text.{space, spaced, messageAt, messageIn, shown, answerText}
 
 -- the message of an opened frame, whatever stands behind the frame
-in-frame : (nonce ad message tag fill : List ℕ) → length nonce ≡ 16 → messageIn (length ad) (length message) (frameWith nonce ad message tag ++ fill) ≡ message
+in-frame : (nonce ad message tag fill : List ℕ) → length nonce + 1 ≡ dataAt
+    → messageIn (length ad) (length message) (frameWith nonce ad message tag ++ fill) ≡ message
 in-frame nonce ad message tag fill h =
-    let body = message ++ tag in
     let head = nonce ++ (length ad ∷ ad) in
-    let n : length head ≡ 17 + length ad = omega (arith, length-append nonce (length ad ∷ ad)) in
     let e : frameWith nonce ad message tag ++ fill ≡ head ++ (message ++ (tag ++ fill)) = simp append-assoc in
-    rw (e, drop-at head (message ++ (tag ++ fill)) (17 + length ad) n) (take-at message (tag ++ fill) (length message) refl)
+    let n : length head ≡ messageAt (length ad) = omega (arith, length-append nonce (length ad ∷ ad)) in
+    rw (e, drop-at head (message ++ (tag ++ fill)) (messageAt (length ad)) n) (take-at message (tag ++ fill) (length message) refl)
 
 module _ (key j : List ℕ) (place : ℕ) (M : Made key (lineAt j place)) where
-  pub made-text : answerText (entry place (readAt key j place frameSize))
-      ≡ numbers place 0 (length (M .ad)) (length (M .message)) ++ cond (ltb 0 (length (M .message))) (space ∷ hexOf (M .message)) [] ++ (newline ∷ [])
+  pub made-text : answerText (entry place (readAt key j place mostFrame))
+      ≡ spaced (place ∷ done ∷ length (M .ad) ∷ length (M .message) ∷ [])
+      ++ cond (ltb 0 (length (M .message))) (space ∷ hexOf (M .message)) [] ++ (newline ∷ [])
   unfolding answerText shown handed opened
   made-text =
-      rw (hands-out key frameSize (omega arith) j place M, in-frame (M .nonce) (M .ad) (M .message) (sealTag key (M .nonce) (M .ad) (M .message)) _ (M .fits .nonce16))
+      let tag = sealTag key (M .nonce) (M .ad) (M .message) in
+      let n : length (M .nonce) + 1 ≡ dataAt = omega (arith, M .fits .nonce16) in
+      rw (hands-out key mostFrame (omega arith) j place M, in-frame (M .nonce) (M .ad) (M .message) tag _ n)

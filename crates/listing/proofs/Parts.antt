@@ -7,8 +7,9 @@ use lib.ListN.{length}
 use lib.Dec.{leb}
 use borrow.Author.Tests.{le-leb, lt-leb, leb-true}
 use Rattle.listing.specs.declared.key.KeyLine.{KeyLine}
+use Rattle.listing.specs.Sizes.{keyLineSize, mostJournal}
 use Rattle.listing.specs.KeyLine.{goodKey, keyOf, journalOf, keyLine}
-use Rattle.listing.specs.Listing.{badKey, tooBig, mostJournal}
+use Rattle.listing.specs.Listing.{badKey, tooBig}
 use Rattle.listing.specs.declared.report.Piece.{Piece}
 use Rattle.listing.specs.Promise.{Filled, PieceFilled}
 use Rattle.listing.specs.Pieces.{Part, alone, answersFrom, parts}
@@ -27,9 +28,9 @@ module _ (input : List ℕ) where
   unfolding keyLine
   line-key g = rw g
 
-  pub line-long : goodKey input ≡ true → 33 ≤ length input
+  pub line-long : goodKey input ≡ true → keyLineSize ≤ length input
   unfolding goodKey
-  line-long g = leb-true 33 (length input) (first (leb 33 (length input)) _ g)
+  line-long g = leb-true keyLineSize (length input) (first (leb keyLineSize (length input)) _ g)
     where
       first : (a b : Bool) → a && b ≡ true → a ≡ true
       first true b e = refl

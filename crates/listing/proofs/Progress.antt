@@ -11,9 +11,12 @@ use Rattle.run.specs.Read.{Reading}
 use Rattle.run.specs.Run.{entry}
 use Rattle.journal.specs.Reader.{readAt}
 use Rattle.listing.specs.declared.report.Piece.{Piece}
+use Rattle.answers.specs.Numbers.{end}
+use Rattle.answers.specs.Sizes.{mostFrame}
+use Rattle.listing.specs.Sizes.{mostJournal, roomForAny}
 use Rattle.listing.specs.Text.{answerText}
 use Rattle.listing.specs.KeyLine.{goodKey, keyOf, journalOf}
-use Rattle.listing.specs.Listing.{listing, badKey, tooBig, mostJournal, frameSize}
+use Rattle.listing.specs.Listing.{listing, badKey, tooBig}
 use Rattle.listing.specs.Pieces.{Part, alone, answersFrom, parts, front, rest, firstPlace, none, pieceOf}
 use Rattle.listing.specs.Promise.{PieceFilled}
 use Rattle.listing.specs.Claims.{Written, last, more}
@@ -22,19 +25,19 @@ use Rattle.listing.proofs.Steps.{step}
 use Rattle.listing.proofs.Joined.{clash, behind, end-is, next-is, joined}
 
 -- the answer at the place fits, so what is left starts later
-moves : (key j : List ℕ) (p room : ℕ) → 529 ≤ room → length j ≤ mostJournal → p ≤ length j → none (rest room (answersFrom key j p)) ≡ false
+moves : (key j : List ℕ) (p room : ℕ) → roomForAny ≤ room → length j ≤ mostJournal → p ≤ length j → none (rest room (answersFrom key j p)) ≡ false
     → (p < firstPlace p (rest room (answersFrom key j p))) × (firstPlace p (rest room (answersFrom key j p)) ≤ length j)
 unfolding rest
 moves key j p room big small h =
-    rw (step key j p h .splits, le-leb (length (answerText (entry p x))) room (omega (arith, answer-length key j p frameSize (omega arith)))) (go (eqb (x .verdict .number) 14) refl)
+    rw (step key j p h .splits, le-leb (length (answerText (entry p x))) room (omega (arith, answer-length key j p mostFrame (omega arith)))) (go (eqb (x .verdict .number) end) refl)
   where
     x : Reading
-    x = readAt key j p frameSize
+    x = readAt key j p mostFrame
 
     left : ℕ
     left = room - length (answerText (entry p x))
 
-    go : (e : Bool) → eqb (x .verdict .number) 14 ≡ e → none (rest left (cond e [] (answersFrom key j (x .next)))) ≡ false
+    go : (e : Bool) → eqb (x .verdict .number) end ≡ e → none (rest left (cond e [] (answersFrom key j (x .next)))) ≡ false
         → (p < firstPlace p (rest left (cond e [] (answersFrom key j (x .next))))) × (firstPlace p (rest left (cond e [] (answersFrom key j (x .next)))) ≤ length j)
     go true q f = clash f
     go false q f =
@@ -42,7 +45,7 @@ moves key j p room big small h =
         let r = behind key j p (suc (length j)) (x .next) left (o .1) (omega arith) f in
         (omega (arith, o .0, r .later), r .within)
 
-module _ (input : List ℕ) (place room : ℕ) (big : 529 ≤ room) (inside : place ≤ length (journalOf input)) where
+module _ (input : List ℕ) (place room : ℕ) (big : roomForAny ≤ room) (inside : place ≤ length (journalOf input)) where
   parts-move : none (rest room (parts input place)) ≡ false
       → (place < firstPlace place (rest room (parts input place))) × (firstPlace place (rest room (parts input place)) ≤ length (journalOf input))
   unfolding parts rest
@@ -54,10 +57,10 @@ module _ (input : List ℕ) (place room : ℕ) (big : 529 ≤ room) (inside : pl
       go : (g b : Bool) → leb (length (journalOf input)) mostJournal ≡ b → none (rest room (some g b)) ≡ false
           → (place < firstPlace place (rest room (some g b))) × (firstPlace place (rest room (some g b)) ≤ length (journalOf input))
       go true true e f = moves (keyOf input) (journalOf input) place room big (leb-true (length (journalOf input)) mostJournal e) inside f
-      go true false e f = clash (rw (le-leb 8 room (omega arith)) at f)
-      go false b e f = clash (rw (le-leb 8 room (omega arith)) at f)
+      go true false e f = clash (rw (le-leb (length tooBig) room (omega arith)) at f)
+      go false b e f = clash (rw (le-leb (length badKey) room (omega arith)) at f)
 
-pub forward : {input out out' : List ℕ} {place : ℕ} {r : Piece} → PieceFilled input place out r out' → 529 ≤ length out → place ≤ length (journalOf input) → r .end ≡ false
+pub forward : {input out out' : List ℕ} {place : ℕ} {r : Piece} → PieceFilled input place out r out' → roomForAny ≤ length out → place ≤ length (journalOf input) → r .end ≡ false
     → (place < r .next) × (r .next ≤ length (journalOf input))
 forward {input} {out} {out'} {place} f big h e = rw (next-is f) (parts-move input place (length out) big h (sym (end-is f) ∙ e))
 
@@ -82,7 +85,7 @@ record Reached (input : List ℕ) (place : ℕ) : Type 0 where
   text : List ℕ
   written : Written input place text
 
-module _ (input out : List ℕ) (big : 529 ≤ length out) where
+module _ (input out : List ℕ) (big : roomForAny ≤ length out) where
   reach : (k place : ℕ) → place ≤ length (journalOf input) → length (journalOf input) < k + place → Reached input place
   reach zero place h l = absurd (omega arith)
   reach (suc k) place h l = go (none (rest (length out) (parts input place))) refl (reach k (r .next))

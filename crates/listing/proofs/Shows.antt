@@ -1,37 +1,38 @@
 -- One answer's text is put together from its numbers, its message and a newline.
-use Prim.Native.Nat.{ℕ}
-use mathlib.Core.Path.{ap}
+use Prim.Native.Nat.{ℕ, _≤_}
+use mathlib.Core.Path.{_≡_, ap}
 use mathlib.Core.List.{List, [], _∷_}
 use native.Mathlib.Omega.{arith}
 use lib.ListN.{length}
 use lib.Dec.{eqb}
+use Rattle.run.specs.Line.{newline}
+use Rattle.run.specs.Run.{entry}
 use Rattle.journal.specs.declared.Answer.{Answer}
 use Rattle.journal.specs.Reader.{readAt}
 use Rattle.journal.specs.Promise.{LineRead}
-use Rattle.listing.specs.Text.{numbers, shown, answerText}
+use Rattle.answers.specs.Numbers.{end}
+use Rattle.answers.specs.Sizes.{mostData, mostMessage}
+use Rattle.listing.specs.Text.{numbersOf, shown, messageText, answerText}
 use Rattle.listing.specs.Put.{Put}
-use Rattle.listing.specs.Promise.{ShownAs}
+use Rattle.listing.specs.Promise.{PutNumbers, ShownAs}
 use Rattle.listing.proofs.Put.{put-put}
-use Rattle.listing.proofs.Small.{Small, read-small}
+use Rattle.journal.proofs.Rows.{read-small}
 
 module _ {j key frame frame' : List ℕ} {place : ℕ} {r : Answer} (h : LineRead j place key frame r frame') where
-  -- the numbers of the answer are small
-  pub answer-small : Small (record { number = r .number; n = r .n; m = r .m; buffer = frame' })
-  answer-small =
-      let s = read-small key j place (length frame) in
-      let e = h .answer in
-      record {
-        number = rw e (s .number);
-        n = rw e (s .n);
-        m = rw e (s .m);
-      }
+  pub answer-small : (r .n ≤ mostData) × (r .m ≤ mostMessage)
+  answer-small = let s = read-small key j place (length frame) in (rw (h .answer) (s .n), rw (h .answer) (s .m))
 
-  pub shows : {text t u v : List ℕ} {a b c : ℕ} → Put text 0 (numbers place (r .number) (r .n) (r .m)) a t → Put t a (shown (r .number) (r .n) (r .m) frame') b u → Put u b (10 ∷ []) c v
-      → ShownAs place (readAt key j place (length frame)) text (record { length = c; next = r .next; end = eqb (r .number) 14 }) v
+  message-is : shown (r .number) (r .n) (r .m) frame' ≡ messageText (readAt key j place (length frame) .verdict)
+  message-is = rw (h .answer, h .buffer)
+
+  pub shows : {text t u v numbers : List ℕ} {a b c : ℕ}
+      → PutNumbers numbers text a t → Put t a (shown (r .number) (r .n) (r .m) frame') b u → Put u b (newline ∷ []) c v
+      → numbers ≡ numbersOf (entry place (readAt key j place (length frame)))
+      → ShownAs place (readAt key j place (length frame)) text
+      (record { length = c; next = r .next; end = eqb (r .number) end }) v
   unfolding answerText
-  shows p q s = record {
-    put = rw (← ap (λ (x : Answer). x .number) (h .answer), ← ap (λ (x : Answer). x .n) (h .answer), ← ap (λ (x : Answer). x .m) (h .answer), ← h .buffer)
-        (put-put (put-put p q (omega arith)) s (omega arith));
+  shows p q s d = record {
+    put = rw (← d, ← message-is) (put-put (put-put (p .put) q (omega arith)) s (omega arith));
     next = ap (λ (x : Answer). x .next) (h .answer);
-    end = ap (λ (x : Answer). eqb (x .number) 14) (h .answer);
+    end = ap (λ (x : Answer). eqb (x .number) end) (h .answer);
   }

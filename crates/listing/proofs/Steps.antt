@@ -16,17 +16,18 @@ use Rattle.run.proofs.Rows.{at-end}
 use Rattle.run.proofs.Progress.{moves, fuel}
 use Rattle.journal.specs.Reader.{readText, readAt, runFrom}
 use Rattle.journal.proofs.Rows.{not-end}
-use Rattle.listing.specs.Listing.{frameSize}
+use Rattle.answers.specs.Numbers.{end}
+use Rattle.answers.specs.Sizes.{mostFrame}
 use Rattle.listing.specs.Pieces.{part, answersFrom}
 
 module _ (key j : List ℕ) where
-  pub inside : (p : ℕ) → p ≤ length j → answersFrom key j p ≡ map part (runFrom key j frameSize (suc (length j)) p)
+  pub inside : (p : ℕ) → p ≤ length j → answersFrom key j p ≡ map part (runFrom key j mostFrame (suc (length j)) p)
   unfolding answersFrom
   inside p h = rw (le-leb p (length j) h)
 
   pub record Step (p : ℕ) : Type 0 where
-    pub splits : answersFrom key j p ≡ part (entry p (readAt key j p frameSize)) ∷ cond (eqb (readAt key j p frameSize .verdict .number) 14) [] (answersFrom key j (readAt key j p frameSize .next))
-    pub onward : eqb (readAt key j p frameSize .verdict .number) 14 ≡ false → (p < readAt key j p frameSize .next) × (readAt key j p frameSize .next ≤ length j)
+    pub splits : answersFrom key j p ≡ part (entry p (readAt key j p mostFrame)) ∷ cond (eqb (readAt key j p mostFrame .verdict .number) end) [] (answersFrom key j (readAt key j p mostFrame .next))
+    pub onward : eqb (readAt key j p mostFrame .verdict .number) end ≡ false → (p < readAt key j p mostFrame .next) × (readAt key j p mostFrame .next ≤ length j)
 
   pub step : (p : ℕ) → p ≤ length j → Step p
   unfolding Run.runFrom refused
@@ -34,17 +35,17 @@ module _ (key j : List ℕ) where
     where
       go : (p ≡ length j) ⊎ (p < length j) → Step p
       go (inl e) =
-          let z = at-end (readText key) j p frameSize (omega arith) e in
+          let z = at-end (readText key) j p mostFrame (omega arith) e in
           record {
             splits = inside p h ∙ simp z;
-            onward = λ f. absurd (eqb-false (readAt key j p frameSize .verdict .number) 14 f (ap (λ (x : Reading). x .verdict .number) z));
+            onward = λ f. absurd (eqb-false (readAt key j p mostFrame .verdict .number) end f (ap (λ (x : Reading). x .verdict .number) z));
           }
       go (inr l) =
-          let m = moves (readText key) (not-end key) frameSize (omega arith) j p l in
-          let x = readAt key j p frameSize in
+          let m = moves (readText key) (not-end key) mostFrame (omega arith) j p l in
+          let x = readAt key j p mostFrame in
           record {
             splits =
                 inside p h
-                ∙ rw (ne-eqb (x .verdict .number) 14 (m .not-end), inside (x .next) (m .within), fuel (readText key) (not-end key) frameSize (omega arith) j (length j) (suc (length j)) (x .next) (m .within) (omega (arith, m)) (omega (arith, m)));
+                ∙ rw (ne-eqb (x .verdict .number) end (m .not-end), inside (x .next) (m .within), fuel (readText key) (not-end key) mostFrame (omega arith) j (length j) (suc (length j)) (x .next) (m .within) (omega (arith, m)) (omega (arith, m)));
             onward = λ f. (m .ahead, m .within);
           }

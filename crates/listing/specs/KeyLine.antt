@@ -6,17 +6,18 @@ use lib.ListN.{length, getD, take, drop, replicate}
 use lib.Dec.{leb, eqb}
 use Rattle.hex.specs.Hex.{allDigits, unhex}
 use Rattle.run.specs.Line.{newline}
+use Rattle.listing.specs.Sizes.{keySize, keyDigits, keyLineSize}
 use Rattle.listing.specs.declared.key.KeyLine.{KeyLine}
 
 unfoldable pub goodKey : (input : List ℕ) → Bool
-goodKey input = leb 33 (length input) && (eqb (getD input 32 0) newline && allDigits (take 32 input))
+goodKey input = leb keyLineSize (length input) && (eqb (getD input keyDigits 0) newline && allDigits (take keyDigits input))
 
 abbrev pub keyOf : (input : List ℕ) → List ℕ
-keyOf input = unhex (take 32 input)
+keyOf input = unhex (take keyDigits input)
 
 abbrev pub journalOf : (input : List ℕ) → List ℕ
-journalOf input = drop 33 input
+journalOf input = drop keyLineSize input
 
 -- what reading the line gives; the key of a bad one is zeros, and is not used
 unfoldable pub keyLine : (input : List ℕ) → KeyLine
-keyLine input = cond (goodKey input) (record { good = true; key = keyOf input }) (record { good = false; key = replicate 16 0 })
+keyLine input = cond (goodKey input) (record { good = true; key = keyOf input }) (record { good = false; key = replicate keySize 0 })

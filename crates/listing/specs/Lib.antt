@@ -1,3 +1,4 @@
+pub mod Sizes
 pub mod Decimal
 pub mod Text
 pub mod KeyLine

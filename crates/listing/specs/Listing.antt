@@ -7,6 +7,8 @@ use lib.Dec.{leb}
 use Rattle.run.specs.Line.{newline}
 use Rattle.run.specs.Run.{Entry}
 use Rattle.journal.specs.Reader.{run}
+use Rattle.answers.specs.Sizes.{mostFrame}
+use Rattle.listing.specs.Sizes.{mostJournal}
 use Rattle.listing.specs.Text.{answerText}
 use Rattle.listing.specs.KeyLine.{goodKey, keyOf, journalOf}
 
@@ -18,13 +20,6 @@ badKey = 98 ∷ 97 ∷ 100 ∷ 32 ∷ 107 ∷ 101 ∷ 121 ∷ newline ∷ []
 abbrev pub tooBig : List ℕ
 tooBig = 116 ∷ 111 ∷ 111 ∷ 32 ∷ 98 ∷ 105 ∷ 103 ∷ newline ∷ []
 
-abbrev pub mostJournal : ℕ
-mostJournal = 60000
-
--- the bytes of the frame buffer: those of the longest frame
-abbrev pub frameSize : ℕ
-frameSize = 353
-
 unfoldable pub answers : List Entry → List ℕ
 answers [] = []
 answers (e ∷ es) = answerText e ++ answers es
@@ -32,5 +27,5 @@ answers (e ∷ es) = answerText e ++ answers es
 unfoldable pub listing : (input : List ℕ) → List ℕ
 listing input =
     cond (goodKey input)
-    (cond (leb (length (journalOf input)) mostJournal) (answers (run (keyOf input) (journalOf input) frameSize)) tooBig)
+    (cond (leb (length (journalOf input)) mostJournal) (answers (run (keyOf input) (journalOf input) mostFrame)) tooBig)
     badKey

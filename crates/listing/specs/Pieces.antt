@@ -6,9 +6,11 @@ use lib.ListN.{length}
 use lib.Dec.{leb}
 use Rattle.run.specs.Run.{Entry}
 use Rattle.journal.specs.Reader.{runFrom}
+use Rattle.answers.specs.Sizes.{mostFrame}
+use Rattle.listing.specs.Sizes.{mostJournal}
 use Rattle.listing.specs.Text.{answerText}
 use Rattle.listing.specs.KeyLine.{goodKey, keyOf, journalOf}
-use Rattle.listing.specs.Listing.{badKey, tooBig, mostJournal, frameSize}
+use Rattle.listing.specs.Listing.{badKey, tooBig}
 use Rattle.listing.specs.declared.report.Piece.{Piece}
 
 -- a text that is written whole or not at all, and the place that it belongs to
@@ -21,7 +23,7 @@ part e = record { place = e .place; text = answerText e }
 
 -- the answers from a place on; none from beyond the end
 unfoldable pub answersFrom : (key journal : List ℕ) → (place : ℕ) → List Part
-answersFrom key j place = cond (leb place (length j)) (map part (runFrom key j frameSize (suc (length j)) place)) []
+answersFrom key j place = cond (leb place (length j)) (map part (runFrom key j mostFrame (suc (length j)) place)) []
 
 -- one part
 abbrev pub alone : (place : ℕ) → (text : List ℕ) → List Part

@@ -7,30 +7,50 @@ use lib.ListN.{take, drop}
 use lib.Dec.{ltb, eqb}
 use Rattle.hex.specs.Hex.{hexOf}
 use Rattle.run.specs.Line.{newline}
+use Rattle.run.specs.Read.{Verdict}
 use Rattle.run.specs.Run.{Entry}
+use Rattle.answers.specs.Numbers.{done}
+use Rattle.answers.specs.Sizes.{dataAt}
 use Rattle.listing.specs.Decimal.{decimal}
 
 abbrev pub space : ℕ
 space = 0x20
 
+-- ---- the numbers
+
+abbrev pub numbersOf : Entry → List ℕ
+numbersOf e = e .place ∷ e .reading .verdict .number ∷ e .reading .verdict .n ∷ e .reading .verdict .m ∷ []
+
 -- a space, then the number
 abbrev pub word : ℕ → List ℕ
 word n = space ∷ decimal n
 
--- the numbers
-unfoldable pub numbers : (place number n m : ℕ) → List ℕ
-numbers place number n m = decimal place ++ word number ++ word n ++ word m
+unfoldable pub words : List ℕ → List ℕ
+words [] = []
+words (n ∷ ns) = word n ++ words ns
 
--- the message, which an opened frame holds behind nonce, n and data
+-- single spaces between
+unfoldable pub spaced : List ℕ → List ℕ
+spaced [] = []
+spaced (n ∷ ns) = decimal n ++ words ns
+
+-- ---- the message
+
+-- where an opened frame has it: behind nonce, n and data
+abbrev pub messageAt : (n : ℕ) → ℕ
+messageAt n = dataAt + n
+
 abbrev pub messageIn : (n m : ℕ) → (frame : List ℕ) → List ℕ
-messageIn n m frame = take m (drop (17 + n) frame)
+messageIn n m frame = take m (drop (messageAt n) frame)
 
 -- for an opened line with m above 0
 unfoldable pub shown : (number n m : ℕ) → (frame : List ℕ) → List ℕ
-shown number n m frame = cond (eqb number 0 && ltb 0 m) (space ∷ hexOf (messageIn n m frame)) []
+shown number n m frame = cond (eqb number done && ltb 0 m) (space ∷ hexOf (messageIn n m frame)) []
+
+abbrev pub messageText : Verdict → List ℕ
+messageText v = shown (v .number) (v .n) (v .m) (v .buffer)
+
+-- ---- the line
 
 unfoldable pub answerText : Entry → List ℕ
-answerText e =
-    numbers (e .place) (e .reading .verdict .number) (e .reading .verdict .n) (e .reading .verdict .m)
-    ++ shown (e .reading .verdict .number) (e .reading .verdict .n) (e .reading .verdict .m) (e .reading .verdict .buffer)
-    ++ (newline ∷ [])
+answerText e = spaced (numbersOf e) ++ messageText (e .reading .verdict) ++ (newline ∷ [])

@@ -1,4 +1,5 @@
 // The key line at the front of the input.
+use crate::sizes;
 use hex::Read;
 use morus::Key;
 ghost use mathlib.Core.Path.{_≡_};
@@ -12,14 +13,14 @@ pub(crate) struct KeyLine {
 pub(crate) fn key_line(input: &[u8]) -> KeyLine
     ensures { λ r. ⌜ r ≡ keyLine (now (input .entry)) ⌝ }
 {
-    let mut key = [0u8; 16];
-    if input.len() < 33 {
+    let mut key = [0u8; sizes::KEY];
+    if input.len() < sizes::KEY_LINE {
         return KeyLine { good: false, key };
     }
-    if input[32] != b'\n' {
+    if input[sizes::KEY_DIGITS] != b'\n' {
         return KeyLine { good: false, key };
     }
-    match hex::read(&input[..32], &mut key) {
+    match hex::read(&input[..sizes::KEY_DIGITS], &mut key) {
         Read::Bytes(_) => KeyLine { good: true, key },
         Read::NotDigit => KeyLine { good: false, key },
         Read::Odd => KeyLine { good: false, key },

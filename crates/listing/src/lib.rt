@@ -2,6 +2,7 @@
 mod gather;
 mod key;
 pub mod report;
+mod sizes;
 mod text;
 
 use gather::gather;
@@ -10,11 +11,6 @@ pub use report::Piece;
 use text::put_bytes;
 ghost use Rattle.listing.specs.Pieces.{alone};
 ghost use Rattle.listing.specs.Promise.{Filled, PieceFilled};
-
-// The bytes of the key line.
-const KEY_LINE: usize = 33;
-
-const MOST_JOURNAL: usize = 60000;
 
 // A refusal is written whole or not at all.
 fn refuse(text: &[u8], place: usize, out: &mut [u8]) -> Piece
@@ -44,8 +40,8 @@ pub fn piece(input: &[u8], place: usize, out: &mut [u8]) -> Piece
         return refuse(b"bad key\n", place, out);
     }
     let key = line.key;
-    let size = input.len() - KEY_LINE;
-    if MOST_JOURNAL < size {
+    let size = input.len() - sizes::KEY_LINE;
+    if sizes::MOST_JOURNAL < size {
         return refuse(b"too big\n", place, out);
     }
     if size < place {
@@ -55,5 +51,5 @@ pub fn piece(input: &[u8], place: usize, out: &mut [u8]) -> Piece
             end: true,
         };
     }
-    gather(&input[KEY_LINE..], place, key, out)
+    gather(&input[sizes::KEY_LINE..], place, key, out)
 }

@@ -1,4 +1,7 @@
 // Text put into a buffer from byte `at` on. Each function gives the place behind what it put.
+use crate::sizes;
+use answers::numbers;
+use answers::sizes::DATA_AT;
 use hex::Written;
 ghost use Prim.Native.Nat.{_+_, _*_, _<_, _≤_};
 ghost use mathlib.Core.Path.{_≡_};
@@ -6,11 +9,13 @@ ghost use mathlib.Core.List.{_∷_, []};
 ghost use lib.ListN.{length, drop};
 ghost use Rattle.hex.specs.Hex.{hexOf};
 ghost use Rattle.listing.specs.Decimal.{decimal};
-ghost use Rattle.listing.specs.Text.{word, numbers, shown};
+ghost use Rattle.listing.specs.Sizes.{wordDigits};
+ghost use Rattle.listing.specs.Text.{word, messageAt, shown};
 ghost use Rattle.listing.specs.Put.{Put};
+ghost use Rattle.listing.specs.Promise.{PutNumbers};
 
-// The number of an opened line.
-const OPENED: u8 = 0;
+// The place of the last of the digits.
+const LAST_DIGIT: usize = sizes::DIGITS - 1;
 
 pub(crate) fn put_bytes(text: &mut [u8], at: usize, bytes: &[u8]) -> usize
     requires { ⌜ at + length (now bytes) ≤ length (now text) ⌝ }
@@ -34,10 +39,10 @@ pub(crate) fn put_byte(text: &mut [u8], at: usize, b: u8) -> usize
 
 // The decimal digits of n at the end of `digits`, and the place of the first.
 fn spell(n: usize, digits: &mut [u8]) -> usize
-    requires { ⌜ length (now digits) ≡ 20 ⌝ }
-    ensures { λ r. ⌜ (r < 20) × (drop r (now (digits .exit)) ≡ decimal n) ⌝ }
+    requires { ⌜ length (now digits) ≡ wordDigits ⌝ }
+    ensures { λ r. ⌜ (r < wordDigits) × (drop r (now (digits .exit)) ≡ decimal n) ⌝ }
 {
-    let mut i = 19;
+    let mut i = LAST_DIGIT;
     let mut rest = n;
     while 10 <= rest {
         digits[i] = 48 + (rest % 10) as u8;
@@ -49,30 +54,34 @@ fn spell(n: usize, digits: &mut [u8]) -> usize
 }
 
 fn put_decimal(text: &mut [u8], at: usize, n: usize) -> usize
-    requires { ⌜ at + 20 ≤ length (now text) ⌝ }
+    requires { ⌜ at + wordDigits ≤ length (now text) ⌝ }
     ensures { λ r. ⌜ Put (now (text .entry)) at (decimal n) r (now (text .exit)) ⌝ }
 {
-    let mut digits = [0u8; 20];
+    let mut digits = [0u8; sizes::DIGITS];
     let from = spell(n, &mut digits);
     put_bytes(text, at, &digits[from..])
 }
 
 fn put_word(text: &mut [u8], at: usize, n: usize) -> usize
-    requires { ⌜ at + 21 ≤ length (now text) ⌝ }
+    requires { ⌜ at + (wordDigits + 1) ≤ length (now text) ⌝ }
     ensures { λ r. ⌜ Put (now (text .entry)) at (word n) r (now (text .exit)) ⌝ }
 {
     let digits = put_byte(text, at, b' ');
     put_decimal(text, digits, n)
 }
 
-pub(crate) fn put_numbers(text: &mut [u8], place: usize, number: u8, n: usize, m: usize) -> usize
-    requires { ⌜ 83 ≤ length (now text) ⌝ }
-    ensures { λ r. ⌜ Put (now (text .entry)) 0 (numbers place number n m) r (now (text .exit)) ⌝ }
+// Numbers at the text's front, of which there is at least one, single spaces between.
+pub(crate) fn put_numbers(text: &mut [u8], list: &[usize]) -> usize
+    requires { ⌜ (0 < length (now list)) × ((wordDigits + 1) * length (now list) ≤ length (now text)) ⌝ }
+    ensures { λ r. ⌜ PutNumbers (now (list .entry)) (now (text .entry)) r (now (text .exit)) ⌝ }
 {
-    let a = put_decimal(text, 0, place);
-    let b = put_word(text, a, number as usize);
-    let c = put_word(text, b, n);
-    put_word(text, c, m)
+    let mut at = put_decimal(text, 0, list[0]);
+    let mut i = 1;
+    while i < list.len() {
+        at = put_word(text, at, list[i]);
+        i += 1;
+    }
+    at
 }
 
 fn put_hex(text: &mut [u8], at: usize, bytes: &[u8]) -> usize
@@ -94,16 +103,16 @@ pub(crate) fn put_shown(
     m: usize,
     frame: &[u8],
 ) -> usize
-    requires { ⌜ (17 + n + m ≤ length (now frame)) × (at + 1 + 2 * m ≤ length (now text)) ⌝ }
+    requires { ⌜ (messageAt n + m ≤ length (now frame)) × (at + 1 + 2 * m ≤ length (now text)) ⌝ }
     ensures { λ r. ⌜ Put (now (text .entry)) at (shown number n m (now (frame .entry))) r (now (text .exit)) ⌝ }
 {
-    if number != OPENED {
+    if number != numbers::DONE {
         return at;
     }
     if m == 0 {
         return at;
     }
-    let start = 17 + n;
+    let start = DATA_AT + n;
     let end = start + m;
     let from = put_byte(text, at, b' ');
     put_hex(text, from, &frame[start..end])

@@ -5,6 +5,10 @@ use mathlib.Core.List.{List, [], _∷_, _++_}
 use Prim.Native.Nat.{ℕ, zero, suc, _≤_, _<_, _^_}
 use native.Mathlib.Omega.{arith}
 use lib.ListN.{length, drop, replicate}
+use Rattle.answers.specs.Numbers.{done, tagDiffers}
+use Rattle.answers.specs.Sizes.{limit, fill}
+use Rattle.answers.specs.Rows.{firstFailing}
+use Rattle.answers.proofs.Rows.{AllPass, pass-zero, pass-first}
 use Rattle.state.specs.declared.State.{State}
 use Rattle.morus.specs.declared.Morus.{Morus}
 use Rattle.morus.specs.declared.Sealed.{Sealed}
@@ -13,7 +17,7 @@ use Rattle.state.specs.Start.{start}
 use Rattle.state.specs.Block.{stream, sealing, opening}
 use Rattle.morus.specs.Blocks.{blocks, bytesN, bytesBy, absorbed, reabsorbed}
 use Rattle.morus.specs.Seal.{lengths, sealFrom, sealTagFrom, unsealFrom, unsealTagFrom, acceptsFrom, seal, sealTag, unseal, accepts}
-use Rattle.morus.specs.Morus.{begun, ifShort, ifFits, ifAccepted, Encrypted, Decrypted, EncryptedInto, DecryptedInto}
+use Rattle.morus.specs.Morus.{begun, lengthRows, intoRows, tagRows, Encrypted, Decrypted, EncryptedInto, DecryptedInto}
 use borrow.Author.Tests.{eq-eqb}
 use Rattle.state.proofs.AllBytes.{bytes-none, bytes-append, bytes-take, bytes-drop}
 use Rattle.state.proofs.Bounds.{stream-bytes}
@@ -22,7 +26,7 @@ use Rattle.state.proofs.Tags.{length-tag, bytes-tag}
 use Rattle.morus.proofs.Blockwise.{length-bytes}
 use Rattle.morus.proofs.RoundTrip.{opening-undoes, sealing-undoes, undone}
 use Rattle.morus.proofs.Same.{same-self, same-true}
-use Rattle.morus.proofs.Numbers.{Short, short}
+use Rattle.morus.proofs.Numbers.{short-passes, fits-passes}
 use Rattle.morus.proofs.Promises.{sealing-done, opening-done, opening-refused, reopened}
 
 -- bytes stay bytes, whatever a block does to the state
@@ -82,32 +86,37 @@ module _ (key nonce d : List ℕ) where
   pub exactly : (m t : List ℕ) → accepts key nonce d (seal key nonce d m) t ≡ true → t ≡ sealTag key nonce d m
   exactly m t h = sym (only (seal key nonce d m) t h .1) ∙ ap (sealTag key nonce d) (back m)
 
+passes : (d m : List ℕ) → length d < limit → length m < limit → AllPass (lengthRows (length d) (length m))
+passes d m hd hm = short-passes (length d) (length m) (record { data-short = hd; text-short = hm })
+
 -- what a call gives, at lengths below 2^61
 module _ (nonce key : List ℕ) {d : List ℕ} where
-  pub encrypted : {m m' : List ℕ} {r : Sealed} → Encrypted (begun nonce key) d m r m' → length d < 2 ^ 61 → length m < 2 ^ 61
-      → (r .number ≡ 0) × (r .tag ≡ sealTag key nonce d m) × (m' ≡ seal key nonce d m)
+  pub encrypted : {m m' : List ℕ} {r : Sealed} → Encrypted (begun nonce key) d m r m' → length d < limit → length m < limit
+      → (r .number ≡ done) × (r .tag ≡ sealTag key nonce d m) × (m' ≡ seal key nonce d m)
   unfolding begun sealTag seal
-  encrypted {m} e hd hm = sealing-done (rw (short (length d) (length m) hd hm .passes 0) at e)
+  encrypted {m} e hd hm = sealing-done (rw (pass-zero _ (passes d m hd hm)) at e)
 
-  pub opened : {c m' : List ℕ} {r : ℕ} (t : List ℕ) → Decrypted (begun nonce key) d c t r m' → length d < 2 ^ 61 → length c < 2 ^ 61
-      → accepts key nonce d c t ≡ true → (r ≡ 0) × (m' ≡ unseal key nonce d c)
-  unfolding begun accepts unseal
-  opened {c} t e hd hc h = opening-done (rw h at (rw (short (length d) (length c) hd hc .passes (ifAccepted (begun nonce key) d c t)) at e))
+  pub opened : {c m' : List ℕ} {r : ℕ} (t : List ℕ) → Decrypted (begun nonce key) d c t r m' → length d < limit → length c < limit
+      → accepts key nonce d c t ≡ true → (r ≡ done) × (m' ≡ unseal key nonce d c)
+  unfolding begun accepts unseal tagRows firstFailing
+  opened {c} t e hd hc h = opening-done (rw h at (rw (pass-first _ (tagRows (begun nonce key) d c t) (passes d c hd hc)) at e))
 
-  pub refused : {c m' : List ℕ} {r : ℕ} (t : List ℕ) → Decrypted (begun nonce key) d c t r m' → length d < 2 ^ 61 → length c < 2 ^ 61
-      → accepts key nonce d c t ≡ false → (r ≡ 1) × (m' ≡ replicate (length c) 170)
-  unfolding begun accepts
-  refused {c} t e hd hc h = opening-refused (rw h at (rw (short (length d) (length c) hd hc .passes (ifAccepted (begun nonce key) d c t)) at e))
+  pub refused : {c m' : List ℕ} {r : ℕ} (t : List ℕ) → Decrypted (begun nonce key) d c t r m' → length d < limit → length c < limit
+      → accepts key nonce d c t ≡ false → (r ≡ tagDiffers) × (m' ≡ replicate (length c) fill)
+  unfolding begun accepts tagRows firstFailing
+  refused {c} t e hd hc h = opening-refused (rw h at (rw (pass-first _ (tagRows (begun nonce key) d c t) (passes d c hd hc)) at e))
 
   -- into a second buffer of the right length it is as in place
   pub encrypted-into : {m out' : List ℕ} {r : Sealed} (out : List ℕ) → length out ≡ length m → EncryptedInto (begun nonce key) d m out r out'
-      → length d < 2 ^ 61 → length m < 2 ^ 61 → (r .number ≡ 0) × (r .tag ≡ sealTag key nonce d m) × (out' ≡ seal key nonce d m)
+      → length d < limit → length m < limit → (r .number ≡ done) × (r .tag ≡ sealTag key nonce d m) × (out' ≡ seal key nonce d m)
   unfolding begun sealTag seal
   encrypted-into {m} out e s hd hm =
-      sealing-done (rw (short (length d) (length m) hd hm .passes (ifFits (length m) (length out) 0), eq-eqb (length out) (length m) e) at s)
+      let f = fits-passes (length d) (length m) (length out) (record { short = record { data-short = hd; text-short = hm }; same = e }) in
+      sealing-done (rw (pass-zero _ f) at s)
 
 pub opened-alike : (w : Morus) (d c t out : List ℕ) {r : ℕ} {out' : List ℕ} → length out ≡ length c
     → DecryptedInto w d c t out r out' → Decrypted w d c t r out'
+unfolding intoRows lengthRows firstFailing
 opened-alike w d c t out e s = reopened _ c (sym e) (rw (eq-eqb (length out) (length c) e) at s)
 
 -- the tag is judged as `accepts` says

@@ -1,51 +1,53 @@
--- The numbers of the length checks.
-use Prim.Native.Nat.{ℕ, zero, suc, _<_, _≤_, _^_}
-use mathlib.Core.Path.{_≡_, refl}
-use mathlib.Core.Bool.{Bool, true, false, cond}
-use native.Mathlib.Omega.{arith}
-use lib.Dec.{leb, eqb}
-use borrow.Author.Tests.{leb-false, lt-leb, eqb-true}
-use Rattle.morus.specs.Morus.{ifShort, ifFits}
+-- The length checks by name, where they pass.
+use Prim.Native.Nat.{ℕ, _<_}
+use mathlib.Core.Path.{_≡_}
+use mathlib.Core.Bool.{cond}
+use lib.Dec.{eqb}
+use borrow.Author.Tests.{lt-ltb, ltb-true, eq-eqb, eqb-true}
+use Rattle.answers.specs.Numbers.{done, otherLength}
+use Rattle.answers.specs.Sizes.{limit}
+use Rattle.answers.specs.Rows.{firstFailing}
+use Rattle.answers.proofs.Rows.{AllPass, zero-pass, pass-first}
+use Rattle.morus.specs.Morus.{lengthRows, intoRows}
 
--- lengths that pass: both are below 2^61, and the later checks answer
 pub record Short (d m : ℕ) : Type 0 where
-  pub data-short : d < 2 ^ 61
-  pub text-short : m < 2 ^ 61
-  pub passes : (next : ℕ) → ifShort d m next ≡ next
+  pub data-short : d < limit
+  pub text-short : m < limit
 
-pub short : (d m : ℕ) → d < 2 ^ 61 → m < 2 ^ 61 → Short d m
-short d m hd hm = record { data-short = hd; text-short = hm; passes = λ next. rw (lt-leb (2 ^ 61) d hd, lt-leb (2 ^ 61) m hm) }
+-- with a second buffer of o bytes
+pub record Fits (d m o : ℕ) : Type 0 where
+  pub short : Short d m
+  pub same : o ≡ m
 
--- over what comes behind the first check, at two values of which one is 0 only if the other is
-module _ (d m x : ℕ) where
-  pub if-passed : ifShort d m x ≡ 0 → Short d m × (x ≡ 0)
-  if-passed h = go (leb (2 ^ 61) d) (leb (2 ^ 61) m) refl refl h
-    where
-      go : (a b : Bool) → leb (2 ^ 61) d ≡ a → leb (2 ^ 61) m ≡ b → _≡_ {A = ℕ} (cond a 2 (cond b 2 x)) 0 → Short d m × (x ≡ 0)
-      go true b ea eb e = absurd (omega arith)
-      go false true ea eb e = absurd (omega arith)
-      go false false ea eb e = (short d m (leb-false _ _ ea) (leb-false _ _ eb), e)
+module _ (d m : ℕ) where
+  short-of : AllPass (lengthRows d m) → Short d m
+  unfolding lengthRows
+  short-of (a, (b, none)) = record { data-short = ltb-true d limit a; text-short = ltb-true m limit b }
 
-  -- where x is refused alike, the whole is
-  pub if-refused : (ifShort d m x ≡ 0 → ⊥) → (y : ℕ) → ((x ≡ 0 → ⊥) → y ≡ x) → ifShort d m y ≡ ifShort d m x
-  if-refused h y same = go (leb (2 ^ 61) d) (leb (2 ^ 61) m) h
-    where
-      go : (a b : Bool) → (_≡_ {A = ℕ} (cond a 2 (cond b 2 x)) 0 → ⊥) → _≡_ {A = ℕ} (cond a 2 (cond b 2 y)) (cond a 2 (cond b 2 x))
-      go true b h = refl
-      go false true h = refl
-      go false false h = same h
+  pub short-pass : firstFailing (lengthRows d m) ≡ 0 → Short d m
+  unfolding lengthRows
+  short-pass e = short-of (zero-pass (lengthRows d m) tt e)
 
-module _ (m o : ℕ) where
-  pub fits-passed : (x : ℕ) → ifFits m o x ≡ 0 → (o ≡ m) × (x ≡ 0)
-  fits-passed x h = go (eqb o m) refl h
-    where
-      go : (a : Bool) → eqb o m ≡ a → _≡_ {A = ℕ} (cond a x 3) 0 → (o ≡ m) × (x ≡ 0)
-      go true e h = (eqb-true _ _ e, h)
-      go false e h = absurd (omega arith)
+  pub short-passes : Short d m → AllPass (lengthRows d m)
+  unfolding lengthRows
+  short-passes s = (lt-ltb d limit (s .data-short), (lt-ltb m limit (s .text-short), tt))
 
-  pub fits-refused : (ifFits m o 0 ≡ 0 → ⊥) → (y : ℕ) → ifFits m o y ≡ ifFits m o 0
-  fits-refused h y = go (eqb o m) h
-    where
-      go : (a : Bool) → (_≡_ {A = ℕ} (cond a 0 3) 0 → ⊥) → _≡_ {A = ℕ} (cond a y 3) (cond a 0 3)
-      go true h = absurd (h refl)
-      go false h = refl
+  module _ (o : ℕ) where
+    -- short lengths leave it to the second buffer's
+    pub short-then : Short d m → firstFailing (intoRows d m o) ≡ cond (eqb o m) done otherLength
+    unfolding intoRows firstFailing
+    short-then s = pass-first (lengthRows d m) _ (short-passes s)
+
+    fits-of : AllPass (intoRows d m o) → Fits d m o
+    unfolding intoRows lengthRows
+    fits-of (a, (b, (c, none))) =
+        record { short = record { data-short = ltb-true d limit a; text-short = ltb-true m limit b }; same = eqb-true o m c }
+
+    pub fits-pass : firstFailing (intoRows d m o) ≡ 0 → Fits d m o
+    unfolding intoRows lengthRows
+    fits-pass e = fits-of (zero-pass (intoRows d m o) tt e)
+
+    pub fits-passes : Fits d m o → AllPass (intoRows d m o)
+    unfolding intoRows lengthRows
+    fits-passes f =
+        (lt-ltb d limit (f .short .data-short), (lt-ltb m limit (f .short .text-short), (eq-eqb o m (f .same), tt)))

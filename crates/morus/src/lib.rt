@@ -1,4 +1,4 @@
-// MORUS-1280-128, after the Rust crate morus 0.1.5: the entry points. The answers are numbers, each a constant below.
+// MORUS-1280-128, after the Rust crate morus 0.1.5: the entry points. The answers are numbers of the table.
 mod bytes;
 mod message;
 
@@ -7,32 +7,21 @@ use crate::message::absorb;
 use crate::message::cover;
 use crate::message::tag_of;
 use crate::message::uncover;
+use answers::numbers;
+use answers::sizes;
 use state::State;
 use state::bytes::copy;
 ghost use mathlib.Core.Path.{_≡_};
 ghost use lib.ListN.{length};
+ghost use Rattle.answers.specs.Rows.{firstFailing};
 ghost use Rattle.morus.specs.Seal.{same};
-ghost use Rattle.morus.specs.Morus.{begun, ifShort, ifFits, Encrypted, Decrypted, EncryptedInto, DecryptedInto};
+ghost use Rattle.morus.specs.Morus.{begun, lengthRows, intoRows, Encrypted, Decrypted, EncryptedInto, DecryptedInto};
 
 pub type Key = [u8; 16];
 
 pub type Nonce = [u8; 16];
 
 pub type Tag = [u8; 16];
-
-const DONE: u8 = 0;
-
-const TAG_DIFFERS: u8 = 1;
-
-const TOO_LONG: u8 = 2;
-
-const OTHER_LENGTH: u8 = 3;
-
-// From this length on a count of bits does not fit the length lane's word.
-const LIMIT: usize = 0x2000_0000_0000_0000;
-
-// What every byte of a refused opening's output becomes.
-const REFUSED: u8 = 0xaa;
 
 pub struct Morus(State);
 
@@ -43,29 +32,29 @@ pub struct Sealed {
 
 // The number for the lengths of data and message.
 fn short_number(adlen: usize, mlen: usize) -> u8
-    ensures { λ r. ⌜ r ≡ ifShort adlen mlen 0 ⌝ }
+    ensures { λ r. ⌜ r ≡ firstFailing (lengthRows adlen mlen) ⌝ }
 {
-    if LIMIT <= adlen {
-        return TOO_LONG;
+    if sizes::LIMIT <= adlen {
+        return numbers::TOO_LONG;
     }
-    if LIMIT <= mlen {
-        return TOO_LONG;
+    if sizes::LIMIT <= mlen {
+        return numbers::TOO_LONG;
     }
-    DONE
+    numbers::DONE
 }
 
 // The number for the lengths of data, message and second buffer.
 fn into_number(adlen: usize, mlen: usize, outlen: usize) -> u8
-    ensures { λ r. ⌜ r ≡ ifShort adlen mlen (ifFits mlen outlen 0) ⌝ }
+    ensures { λ r. ⌜ r ≡ firstFailing (intoRows adlen mlen outlen) ⌝ }
 {
     let short = short_number(adlen, mlen);
-    if short != DONE {
+    if short != numbers::DONE {
         return short;
     }
     if outlen != mlen {
-        return OTHER_LENGTH;
+        return numbers::OTHER_LENGTH;
     }
-    DONE
+    numbers::DONE
 }
 
 // All sixteen bytes are compared, whatever the first ones say.
@@ -96,14 +85,17 @@ impl Morus {
         let adlen = ad.len();
         let mlen = mc.len();
         let number = short_number(adlen, mlen);
-        if number != DONE {
+        if number != numbers::DONE {
             return Sealed {
                 number,
                 tag: [0u8; 16],
             };
         }
         let tag = tag_of(cover(absorb(self.0, ad), mc), adlen, mlen);
-        Sealed { number: DONE, tag }
+        Sealed {
+            number: numbers::DONE,
+            tag,
+        }
     }
 
     // Opens `mc` in place.
@@ -113,16 +105,16 @@ impl Morus {
         let adlen = ad.len();
         let clen = mc.len();
         let number = short_number(adlen, clen);
-        if number != DONE {
-            fill(mc, REFUSED);
+        if number != numbers::DONE {
+            fill(mc, sizes::FILL);
             return number;
         }
         let own = tag_of(uncover(absorb(self.0, ad), mc), adlen, clen);
         if same_tag(tag, own) {
-            return DONE;
+            return numbers::DONE;
         }
-        fill(mc, REFUSED);
-        TAG_DIFFERS
+        fill(mc, sizes::FILL);
+        numbers::TAG_DIFFERS
     }
 
     // Seals `m` into `c`.
@@ -131,7 +123,7 @@ impl Morus {
     {
         let mlen = m.len();
         let number = into_number(ad.len(), mlen, c.len());
-        if number != DONE {
+        if number != numbers::DONE {
             return Sealed {
                 number,
                 tag: [0u8; 16],
@@ -147,8 +139,8 @@ impl Morus {
     {
         let clen = c.len();
         let number = into_number(ad.len(), clen, m.len());
-        if number != DONE {
-            fill(m, REFUSED);
+        if number != numbers::DONE {
+            fill(m, sizes::FILL);
             return number;
         }
         copy(m, 0, c);

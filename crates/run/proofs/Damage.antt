@@ -8,6 +8,7 @@ use native.Mathlib.Omega.{arith}
 use native.Mathlib.Nat.{add-assoc, eq-or-lt-of-le}
 use lib.ListN.{length, drop, length-append, length-drop}
 use borrow.Author.Tests.{le-ltb, lt-ltb, le-leb, lt-leb}
+use Rattle.answers.specs.Sizes.{mostFrame}
 use Rattle.run.specs.Line.{newline, newlineAt, textOf}
 use Rattle.run.specs.Read.{Reader, reading}
 use Rattle.run.specs.Run.{Entry, entry, run, shift, shiftEntry, answersFrom, answersBefore}
@@ -59,7 +60,7 @@ alike a b (e ∷ es) = (
   alike a b es,
 )
 
-module _ (read : Reader) (not-end : NotEnd read) (size : ℕ) (big : 353 ≤ size) where
+module _ (read : Reader) (not-end : NotEnd read) (size : ℕ) (big : mostFrame ≤ size) where
   plain-before : (A : List ℕ) → Plain A → Before read size A
   plain-before A h = record { answers = entry 0 (reading (read A size) (length A + 1)) ∷ []; places = (omega arith, tt); splits = λ T. one-line read not-end size big A T h }
 

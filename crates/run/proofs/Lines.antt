@@ -1,9 +1,11 @@
 -- What is said at a place and what is said of the line that stands there.
-use Prim.Native.Nat.{ℕ, _+_, _≤_}
+use Prim.Native.Nat.{ℕ, _+_, _≤_, _<_}
 use mathlib.Core.Path.{_≡_, refl, _∙_}
 use mathlib.Core.List.{List, [], _∷_, _++_}
 use native.Mathlib.Omega.{arith}
 use lib.ListN.{length, take, drop, length-drop, length-take}
+use Rattle.answers.specs.Sizes.{mostFrame}
+use Rattle.answers.specs.Numbers.{bufferTooSmall, placeBeyond, end, noNewline, numbersBelow}
 use Rattle.run.specs.Line.{newline, newlineAt, textOf, lineAt}
 use Rattle.run.specs.Read.{Verdict, Reader, Reading, reading, refused, readLine, readAt}
 use Rattle.run.specs.Claims.{Blanks}
@@ -22,7 +24,7 @@ refused-blanks k size = record { blank = λ h. record { fill = refl; no-data = r
 
 module _ (read : Reader) (j : List ℕ) (p size : ℕ) where
   -- a line whose text is known is answered by it
-  pub at-text : 353 ≤ size → (t : List ℕ) → Plain t → lineAt j p ≡ t ++ (newline ∷ []) → readAt read j p size ≡ reading (read t size) (p + length (lineAt j p))
+  pub at-text : mostFrame ≤ size → (t : List ℕ) → Plain t → lineAt j p ≡ t ++ (newline ∷ []) → readAt read j p size ≡ reading (read t size) (p + length (lineAt j p))
   unfolding lineAt readLine
   at-text big t h e =
       let s = drop p j in
@@ -41,16 +43,16 @@ module _ (read : Reader) (j : List ℕ) (p size : ℕ) where
       (λ b l e z. absurd (omega arith))
       (λ b l e z. record { text = textOf (drop p j); line = line-text (drop p j) e; opens = z })
 
-  -- what holds of each refusal and of each verdict of the reader holds of what is said at any place
-  pub said : (P : Verdict → Type 0) → ((k : ℕ) → 11 ≤ k → k ≤ 14 → P (refused k size)) → ((t : List ℕ) → P (read t size)) → P (readAt read j p size .verdict)
+  -- what holds of each refusal of the table and of each verdict of the reader holds of what is said at any place
+  pub said : (P : Verdict → Type 0) → ((k : ℕ) → k < numbersBelow → P (refused k size)) → ((t : List ℕ) → P (read t size)) → P (readAt read j p size .verdict)
   unfolding readLine
   said P r t =
       rows read j p size (λ (x : Reading). P (x .verdict))
-      (λ s. r 13 (omega arith) (omega arith))
-      (λ b l. r 12 (omega arith) (omega arith))
-      (λ b l. r 14 (omega arith) (omega arith))
-      (λ b l e. r 11 (omega arith) (omega arith))
+      (λ s. r bufferTooSmall (omega arith))
+      (λ b l. r placeBeyond (omega arith))
+      (λ b l. r end (omega arith))
+      (λ b l e. r noNewline (omega arith))
       (λ b l e. t (textOf (drop p j)))
 
   pub blanks : ((t : List ℕ) → Blanks size (read t size)) → Blanks size (readAt read j p size .verdict)
-  blanks = said (Blanks size) (λ k l u. refused-blanks k size)
+  blanks = said (Blanks size) (λ k l. refused-blanks k size)

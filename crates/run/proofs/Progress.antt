@@ -7,13 +7,15 @@ use native.Mathlib.Omega.{arith}
 use native.Mathlib.Nat.{eq-or-lt-of-le}
 use lib.ListN.{length, drop, length-drop}
 use borrow.Author.Tests.{ne-eqb}
+use Rattle.answers.specs.Sizes.{mostFrame}
+use Rattle.answers.specs.Numbers.{end}
 use Rattle.run.specs.Line.{textOf}
 use Rattle.run.specs.Read.{Reader, Reading, reading, refused, readLine, readAt}
 use Rattle.run.specs.Run.{Entry, entry, runFrom, run}
 use Rattle.run.specs.Claims.{NotEnd, Every, Moves, Ends}
 use Rattle.run.proofs.Rows.{rows, at-end}
 
-module _ (read : Reader) (not-end : NotEnd read) (size : ℕ) (big : 353 ≤ size) where
+module _ (read : Reader) (not-end : NotEnd read) (size : ℕ) (big : mostFrame ≤ size) where
   pub moves : (j : List ℕ) (p : ℕ) → p < length j → Moves j p (readAt read j p size .verdict .number) (readAt read j p size .next)
   unfolding refused readLine
   moves j p h =
@@ -35,13 +37,13 @@ module _ (read : Reader) (not-end : NotEnd read) (size : ℕ) (big : 353 ≤ siz
           → ((q : ℕ) → q ≤ length j → length j < k + q → length j < k′ + q → runFrom read j size k q ≡ runFrom read j size k′ q)
           → runFrom read j size (suc k) p ≡ runFrom read j size (suc k′) p
       go (inl q) ih = simp (q, at-end read j (length j) size big refl)
-      go (inr l) ih = let m = moves j p l in simp (ne-eqb _ 14 (m .not-end), ih (readAt read j p size .next) (m .within) (omega arith) (omega arith))
+      go (inr l) ih = let m = moves j p l in simp (ne-eqb _ end (m .not-end), ih (readAt read j p size .next) (m .within) (omega arith) (omega arith))
 
   -- at most k calls, of which only the last says end, where k are enough to reach it
   record EndsFrom (j : List ℕ) (k p : ℕ) : Type 0 where
     before : List Entry
-    no-sooner : Every (λ (e : Entry). e .reading .verdict .number ≡ 14 → ⊥) before
-    splits : runFrom read j size k p ≡ before ++ (entry (length j) (reading (refused 14 size) (length j)) ∷ [])
+    no-sooner : Every (λ (e : Entry). e .reading .verdict .number ≡ end → ⊥) before
+    splits : runFrom read j size k p ≡ before ++ (entry (length j) (reading (refused end size) (length j)) ∷ [])
     calls : length (runFrom read j size k p) ≤ k
 
   ends-from : (j : List ℕ) (k p : ℕ) → p ≤ length j → length j < k + p → EndsFrom j k p
@@ -62,8 +64,8 @@ module _ (read : Reader) (not-end : NotEnd read) (size : ℕ) (big : 353 ≤ siz
           record {
             before = entry p (readAt read j p size) ∷ t .before;
             no-sooner = (m .not-end, t .no-sooner);
-            splits = simp (ne-eqb _ 14 (m .not-end), t .splits);
-            calls = simp (ne-eqb _ 14 (m .not-end)) (omega (arith, t .calls));
+            splits = simp (ne-eqb _ end (m .not-end), t .splits);
+            calls = simp (ne-eqb _ end (m .not-end)) (omega (arith, t .calls));
           }
 
   pub ends : (j : List ℕ) → Ends read j size

@@ -9,6 +9,8 @@ use lib.ListN.{length, length-append}
 use lib.Seq.{take-append-seam, append-snoc}
 use lib.Dec.{eqb}
 use borrow.Author.Tests.{ne-eqb}
+use Rattle.answers.specs.Sizes.{mostFrame}
+use Rattle.answers.specs.Numbers.{end, noNewline}
 use Rattle.run.specs.Line.{newline}
 use Rattle.run.specs.Read.{Reader, reading, refused, readLine, readAt}
 use Rattle.run.specs.Run.{Entry, entry, runFrom, run, shiftEntry}
@@ -32,17 +34,17 @@ module _ (read : Reader) (size : ℕ) where
   unfolding runFrom
   reads j zero p = tt
   reads j (suc k) p =
-      (refl, every-cond _ (eqb (readAt read j p size .verdict .number) 14) _ (reads j k (readAt read j p size .next)))
+      (refl, every-cond _ (eqb (readAt read j p size .verdict .number) end) _ (reads j k (readAt read j p size .next)))
 
   -- a line's answer
-  pub at-line : 353 ≤ size → (s t : List ℕ) → Plain s → readAt read (s ++ newline ∷ t) 0 size ≡ reading (read s size) (length s + 1)
+  pub at-line : mostFrame ≤ size → (s t : List ℕ) → Plain s → readAt read (s ++ newline ∷ t) 0 size ≡ reading (read s size) (length s + 1)
   unfolding readLine
   at-line big s t h =
       let l = newlineAt-plain s t h in
       found read (s ++ newline ∷ t) 0 size big (omega (arith, length-append s (newline ∷ t))) (omega (arith, length-append s (newline ∷ t)))
       ∙ rw (l, take-append-seam s (newline ∷ t), zero-add)
 
-module _ (read : Reader) (not-end : NotEnd read) (size : ℕ) (big : 353 ≤ size) where
+module _ (read : Reader) (not-end : NotEnd read) (size : ℕ) (big : mostFrame ≤ size) where
   -- the run of what stands behind a newline, shifted
   rest-run : (s t : List ℕ) (k : ℕ) → length t < k
       → runFrom read (s ++ newline ∷ t) size k (length s + 1) ≡ map (shiftEntry (length s + 1)) (run read t size)
@@ -55,16 +57,16 @@ module _ (read : Reader) (not-end : NotEnd read) (size : ℕ) (big : 353 ≤ siz
       → run read (s ++ newline ∷ t) size ≡ entry 0 (reading (read s size) (length s + 1)) ∷ map (shiftEntry (length s + 1)) (run read t size)
   unfolding run runFrom
   one-line s t h =
-      simp (at-line read size big s t h, ne-eqb (read s size .number) 14 (not-end s size))
+      simp (at-line read size big s t h, ne-eqb (read s size .number) end (not-end s size))
       (ap (λ (l : List Entry). entry 0 (reading (read s size) (length s + 1)) ∷ l)
       (rest-run s t (length (s ++ newline ∷ t)) (omega (arith, length-append s (newline ∷ t)))))
 
   -- no newline: one answer 11, then the end
   pub last-line : (s : List ℕ) → Plain s → 0 < length s
-      → run read s size ≡ entry 0 (reading (refused 11 size) (length s)) ∷ entry (length s) (reading (refused 14 size) (length s)) ∷ []
+      → run read s size ≡ entry 0 (reading (refused noNewline size) (length s)) ∷ entry (length s) (reading (refused end size) (length s)) ∷ []
   unfolding run runFrom refused
   last-line (x ∷ s) h l = simp (unended read (x ∷ s) 0 size big (omega arith) (omega arith), at-end read (x ∷ s) (length (x ∷ s)) size big refl)
 
-  pub no-line : run read [] size ≡ entry 0 (reading (refused 14 size) 0) ∷ []
+  pub no-line : run read [] size ≡ entry 0 (reading (refused end size) 0) ∷ []
   unfolding run runFrom refused
   no-line = simp (at-end read [] 0 size big refl)

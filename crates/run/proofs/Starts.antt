@@ -12,6 +12,8 @@ use lib.ListN.{length, getD, drop, length-append, length-drop, List·getD-append
 use lib.Seq.{getD-append-add, getD-append-seam}
 use lib.Dec.{eqb·suc-suc}
 use borrow.Author.Tests.{eq-eqb, ne-eqb}
+use Rattle.answers.specs.Sizes.{mostFrame}
+use Rattle.answers.specs.Numbers.{end}
 use Rattle.run.specs.Line.{newline, newlineAt, textOf}
 use Rattle.run.specs.Read.{Reader}
 use Rattle.run.specs.Run.{Entry, run, shiftEntry, places, isStart, startsAmong, starts}
@@ -80,7 +82,7 @@ unfolding shiftEntry
 places-shift d [] = refl
 places-shift d (e ∷ es) = rw (places-shift d es)
 
-module _ (read : Reader) (not-end : NotEnd read) (size : ℕ) (big : 353 ≤ size) where
+module _ (read : Reader) (not-end : NotEnd read) (size : ℕ) (big : mostFrame ≤ size) where
   starts-fuel : (k : ℕ) (j : List ℕ) → length j ≤ k → places (run read j size) ≡ starts j
   unfolding starts startsAmong
   starts-fuel zero [] h = rw (no-line read not-end size big)

@@ -3,13 +3,14 @@ use Prim.Native.Nat.{ℕ, _+_, _≤_, _<_}
 use mathlib.Core.Path.{_≡_}
 use mathlib.Core.List.{List, [], _∷_, _++_, map}
 use lib.ListN.{length, replicate}
+use Rattle.answers.specs.Numbers.{end}
 use Rattle.run.specs.Line.{newline}
 use Rattle.run.specs.Read.{Verdict, Reader, reading, refused}
 use Rattle.run.specs.Run.{Entry, entry, run, shiftEntry}
 
 -- all that the laws ask of a reader: the end answer is not one of its own
 abbrev pub NotEnd : Reader → Type 0
-NotEnd read = (text : List ℕ) → (size : ℕ) → read text size .number ≡ 14 → ⊥
+NotEnd read = (text : List ℕ) → (size : ℕ) → read text size .number ≡ end → ⊥
 
 abbrev pub Every : (Entry → Type 0) → List Entry → Type 0
 Every P [] = Unit {0}
@@ -26,13 +27,13 @@ Pairwise R (x ∷ xs) (y ∷ ys) = R x y × Pairwise R xs ys
 pub record Moves (j : List ℕ) (p number next : ℕ) : Type 0 where
   pub ahead : p < next
   pub within : next ≤ length j
-  pub not-end : number ≡ 14 → ⊥
+  pub not-end : number ≡ end → ⊥
 
 -- the run ends by call L + 1, in the end answer and no sooner
 pub record Ends (read : Reader) (j : List ℕ) (size : ℕ) : Type 0 where
   pub before : List Entry
-  pub no-sooner : Every (λ (e : Entry). e .reading .verdict .number ≡ 14 → ⊥) before
-  pub splits : run read j size ≡ before ++ (entry (length j) (reading (refused 14 size) (length j)) ∷ [])
+  pub no-sooner : Every (λ (e : Entry). e .reading .verdict .number ≡ end → ⊥) before
+  pub splits : run read j size ≡ before ++ (entry (length j) (reading (refused end size) (length j)) ∷ [])
   pub calls : length (run read j size) ≤ length j + 1
 
 -- the answers to the lines of A: they depend on A alone, and stand before those of whatever comes after A and a newline

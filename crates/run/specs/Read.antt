@@ -1,9 +1,12 @@
 -- Reading at a place of a journal, with a frame buffer of `size` bytes. What reads a line's text is a parameter.
-use Prim.Native.Nat.{ℕ, _+_}
-use mathlib.Core.Bool.{cond}
-use mathlib.Core.List.{List}
+use Prim.Native.Nat.{ℕ, zero, suc, _+_}
+use mathlib.Core.Bool.{cond, not}
+use mathlib.Core.List.{List, [], _∷_}
 use lib.ListN.{length, drop, replicate}
 use lib.Dec.{leb, ltb, eqb}
+use Rattle.answers.specs.Numbers.{noNewline, placeBeyond, bufferTooSmall, end}
+use Rattle.answers.specs.Sizes.{fill, mostFrame}
+use Rattle.answers.specs.Rows.{Row, _else_, firstFailing}
 use Rattle.run.specs.Line.{newlineAt, textOf}
 
 -- what is said of a line's text, and the frame buffer afterwards; no place is in it
@@ -14,7 +17,7 @@ pub record Verdict : Type 0 where
   pub buffer : List ℕ
 
 unfoldable pub refused : (number size : ℕ) → Verdict
-refused number size = record { number = number; n = 0; m = 0; buffer = replicate size 0xaa }
+refused number size = record { number = number; n = 0; m = 0; buffer = replicate size fill }
 
 -- from a line's text, without its newline, and the size of the frame buffer
 abbrev pub Reader : Type 0
@@ -28,14 +31,27 @@ pub record Reading : Type 0 where
 abbrev pub reading : Verdict → ℕ → Reading
 reading v next = record { verdict = v; next = next }
 
+-- the rows before the line's own, in their order
+unfoldable pub placeRows : (journal : List ℕ) → (place size : ℕ) → List Row
+placeRows j place size =
+    (leb mostFrame size else bufferTooSmall)
+    ∷ (leb place (length j) else placeBeyond)
+    ∷ (not (eqb place (length j)) else end)
+    ∷ (ltb (newlineAt (drop place j)) (length (drop place j)) else noNewline)
+    ∷ []
+
+-- where to go on after a refusal by them: the place is kept, but without a newline it is the journal's end
+abbrev pub nextAfter : (number : ℕ) → (journal : List ℕ) → (place : ℕ) → ℕ
+nextAfter number j place = cond (eqb number noNewline) (length j) place
+
 -- of the line from the place on, where it has a newline
 unfoldable pub readLine : Reader → (journal : List ℕ) → (place size : ℕ) → Reading
 readLine read j place size = reading (read (textOf (drop place j)) size) (place + newlineAt (drop place j) + 1)
 
+-- by the number
+unfoldable pub readBy : Reader → (journal : List ℕ) → (place size number : ℕ) → Reading
+readBy read j place size zero = readLine read j place size
+readBy read j place size (suc k) = reading (refused (suc k) size) (nextAfter (suc k) j place)
+
 unfoldable pub readAt : Reader → (journal : List ℕ) → (place size : ℕ) → Reading
-readAt read j place size =
-    cond (ltb size 353) (reading (refused 13 size) place)
-    (cond (ltb (length j) place) (reading (refused 12 size) place)
-    (cond (eqb place (length j)) (reading (refused 14 size) place)
-    (cond (leb (length (drop place j)) (newlineAt (drop place j))) (reading (refused 11 size) (length j))
-    (readLine read j place size))))
+readAt read j place size = readBy read j place size (firstFailing (placeRows j place size))

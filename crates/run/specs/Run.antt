@@ -4,6 +4,7 @@ use mathlib.Core.Bool.{Bool, true, cond, _||_}
 use mathlib.Core.List.{List, [], _∷_, map}
 use lib.ListN.{length, getD}
 use lib.Dec.{leb, ltb, eqb}
+use Rattle.answers.specs.Numbers.{end}
 use Rattle.run.specs.Line.{newline}
 use Rattle.run.specs.Read.{Reader, Reading, reading, readAt}
 
@@ -19,7 +20,7 @@ unfoldable pub runFrom : Reader → (journal : List ℕ) → (size calls place :
 runFrom read j size zero place = []
 runFrom read j size (suc k) place =
     entry place (readAt read j place size)
-    ∷ cond (eqb (readAt read j place size .verdict .number) 14) [] (runFrom read j size k (readAt read j place size .next))
+    ∷ cond (eqb (readAt read j place size .verdict .number) end) [] (runFrom read j size k (readAt read j place size .next))
 
 unfoldable pub run : Reader → (journal : List ℕ) → (size : ℕ) → List Entry
 run read j size = runFrom read j size (suc (length j)) 0

@@ -1,11 +1,9 @@
 // Sealed lines are gathered in a buffer and written in large pieces.
+use answers::sizes::MOST_LINE;
 use journal::Line;
 use libc::STDOUT_FILENO;
 use morus::Key;
 use morus::Nonce;
-
-// The longest sealed line.
-const LONGEST: usize = 707;
 
 // How many bytes wait in the buffer, and whether a write has failed.
 pub(crate) struct Waiting {
@@ -31,7 +29,7 @@ pub(crate) fn flush(buffer: &[u8], waiting: Waiting) -> Waiting {
 // Makes room for one line.
 pub(crate) fn with_room(buffer: &[u8], waiting: Waiting) -> Waiting {
     if waiting.count <= buffer.len() {
-        if LONGEST <= buffer.len() - waiting.count {
+        if MOST_LINE <= buffer.len() - waiting.count {
             return waiting;
         }
     }

@@ -4,6 +4,7 @@ use crate::words::NOT_DIGIT;
 use crate::words::NOT_SIXTEEN;
 use crate::words::NOT_THREE;
 use crate::words::ODD;
+use answers::numbers;
 use libc::STDERR_FILENO;
 
 pub(crate) const NONCE: u8 = 0;
@@ -58,8 +59,11 @@ pub(crate) fn bad_word(line: u64, word: u8, wrong: u8) {
 pub(crate) fn not_sealed(line: u64, number: u8) {
     tell_line(line);
     match number {
-        8 => io::write_all(STDERR_FILENO, b"data: over 64 bytes (8)\n"),
-        10 => io::write_all(STDERR_FILENO, b"message: over 256 bytes (10)\n"),
+        numbers::DATA_TOO_LONG => io::write_all(STDERR_FILENO, b"data: over 64 bytes (8)\n"),
+        numbers::MESSAGE_TOO_LONG => io::write_all(
+            STDERR_FILENO,
+            b"message: over 256 bytes (10)\n",
+        ),
         _ => io::write_all(STDERR_FILENO, b"no room for the line (15)\n"),
     }
     ;

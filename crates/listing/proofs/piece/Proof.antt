@@ -8,6 +8,7 @@ use native.Mathlib.Omega.{arith}
 use lib.ListN.{length, drop, length-drop}
 use borrow.Author.Tests.{not-true, not-false}
 use Rattle.listing.specs.declared.key.KeyLine.{KeyLine}
+use Rattle.listing.specs.Sizes.{keyLineSize}
 use Rattle.listing.specs.KeyLine.{goodKey, keyOf}
 use Rattle.listing.proofs.Gathered.{begin, finish}
 use Rattle.listing.proofs.Parts.{line-good, line-key, line-long, bad, big, journal, beyond, promised}
@@ -40,7 +41,7 @@ returns-2 c =
     let t : tie.Then2 = r .before .before .before in
     let e : tie.Else1 = t .before .before in
     let s : tie.Start = e .before .before .before .before .before in
-    promised _ (big (s .args .input .now) (s .args .place) (good-at e) (omega (arith, t .if2 .taken, length-drop 33 (s .args .input .now)))) (r .refuse2 .ensures)
+    promised _ (big (s .args .input .now) (s .args .place) (good-at e) (omega (arith, t .if2 .taken, length-drop keyLineSize (s .args .input .now)))) (r .refuse2 .ensures)
 
 returns-3 : tie.Need-returns-3
 returns-3 c =
@@ -48,8 +49,8 @@ returns-3 c =
     let e : tie.Else1 = t .before .before in
     let s : tie.Start = e .before .before .before .before .before in
     let i = s .args .input .now in
-    let n = length-drop 33 i in
-    promised _ (journal i (s .args .place) (good-at e) (omega (arith, t .if2 .left, n)) ∙ beyond (keyOf i) (drop 33 i) (s .args .place) (omega (arith, c .if3 .taken, n)))
+    let n = length-drop keyLineSize i in
+    promised _ (journal i (s .args .place) (good-at e) (omega (arith, t .if2 .left, n)) ∙ beyond (keyOf i) (drop keyLineSize i) (s .args .place) (omega (arith, c .if3 .taken, n)))
     (finish (begin [] (s .args .out .now)) (s .args .place))
 
 sub-gather : tie.Need-sub-gather
@@ -65,8 +66,8 @@ returns-4 c =
     let e : tie.Else1 = t .before .before .before in
     let s : tie.Start = e .before .before .before .before .before in
     let i = s .args .input .now in
-    let n = length-drop 33 i in
-    let w = take-all (length i - 33) (drop 33 i) (omega arith) in
+    let n = length-drop keyLineSize i in
+    let w = take-all (length i - keyLineSize) (drop keyLineSize i) (omega arith) in
     promised _ (journal i (s .args .place) (good-at e) (omega (arith, t .before .if2 .left, n)) ∙ rw (← key-at e)) (rw w at (g .gather .ensures))
 
 pub piece-spec : {M : Type 1} → statement M

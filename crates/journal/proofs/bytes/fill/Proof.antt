@@ -5,6 +5,7 @@ use Prim.Native.Nat.{_≤_, _-_}
 use native.Mathlib.Omega.{arith}
 use lib.ListN.{length, take, drop, replicate, length-set}
 use lib.Seq.{drop-length}
+use Rattle.answers.specs.Sizes.{fill}
 use Rattle.journal.proofs.Parts.{fill-none, fill-more}
 use borrow.Author.Needs.{needs}
 use Rattle.journal.proofs.bytes.fill.Statement.{statement}
@@ -15,13 +16,13 @@ Inv-loop buffer₀ from i₀ buffer i =
     (length buffer ≡ length buffer₀)
     × (from ≤ i)
     × (i ≤ length buffer₀)
-    × (buffer ≡ take from buffer₀ ++ (replicate (i - from) 0xaa ++ drop i buffer₀))
+    × (buffer ≡ take from buffer₀ ++ (replicate (i - from) fill ++ drop i buffer₀))
 
 abbrev μ-loop : tie.MeasureT-loop
 μ-loop buffer₀ from i₀ buffer i = length buffer₀ - i
 
 loop-holds : tie.Need-loop-holds Inv-loop μ-loop
-loop-holds c = (refl, omega arith, omega arith, fill-none (c .args .buffer .now) (c .args .from) 0xaa)
+loop-holds c = (refl, omega arith, omega arith, fill-none (c .args .buffer .now) (c .args .from) fill)
 
 loop-again : tie.Need-loop-again Inv-loop μ-loop
 loop-again c =
@@ -29,7 +30,7 @@ loop-again c =
       rw length-set (q .loop .inv .0),
       omega arith,
       omega arith,
-      rw (q .loop .inv .3) (fill-more (q .before .args .buffer .now) (q .before .args .from) (q .loop .i) 0xaa (omega arith) (omega arith)),
+      rw (q .loop .inv .3) (fill-more (q .before .args .buffer .now) (q .before .args .from) (q .loop .i) fill (omega arith) (omega arith)),
     )
 
 returns : tie.Need-returns Inv-loop μ-loop

@@ -3,6 +3,7 @@ use mathlib.Core.Path.{sym}
 use native.Mathlib.Omega.{arith}
 use lib.ListN.{getD}
 use lib.Seq.{length-take-le}
+use Rattle.answers.specs.Sizes.{fill, nonceSize}
 use Rattle.journal.proofs.OpenFrame.{Settled, settle}
 use borrow.Author.Needs.{needs}
 use Rattle.journal.proofs.frame.open_frame.Statement.{statement}
@@ -16,7 +17,7 @@ slice-aggregate-decrypt-in-place : tie.Need-slice-aggregate-decrypt-in-place
 unfolding start
 slice-aggregate-decrypt-in-place c =
     let d : tie.After-copy = c .before .before .before .before in
-    sym (length-take-le (getD (start d .args .frame .now) 16 0) (d .copy .last .0) (omega (arith, d .copy .kept .0)))
+    sym (length-take-le (getD (start d .args .frame .now) nonceSize 0) (d .copy .last .0) (omega (arith, d .copy .kept .0)))
 
 at-answer : (c : tie.After-decrypt-in-place) → let s = start (c .before .before .before .before .before) in
     Settled (s .args .frame .now) (s .args .count) (s .args .key) (c .decrypt-in-place .result) (c .decrypt-in-place .last .1 .0)

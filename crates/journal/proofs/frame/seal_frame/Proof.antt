@@ -4,6 +4,7 @@ use mathlib.Core.Path.{_≡_, _∙_}
 use native.Mathlib.Omega.{arith}
 use lib.ListN.{length, length-set}
 use borrow.Rule.Slice.PartMut.{putMid, same-len-mid}
+use Rattle.answers.specs.Sizes.{dataAt}
 use Rattle.journal.proofs.SealFrame.{seal-steps}
 use borrow.Author.Needs.{needs}
 use Rattle.journal.proofs.frame.seal_frame.Statement.{statement}
@@ -29,11 +30,11 @@ with-message : (c : tie.After-copy3) → length (c .copy3 .last .0) ≡ length (
 with-message c = c .copy3 .kept .0 ∙ with-data (c .before .before .before .before)
 
 with-cipher : (c : tie.After-encrypt-in-place) → let s = start₄ c in
-    let from = 17 + length (s .args .«data» .now) in
+    let from = dataAt + length (s .args .«data» .now) in
     length (putMid from (from + length (s .args .message .now) - from) (c .before .before .before .before .before .copy3 .last .0) (c .encrypt-in-place .last .1 .0)) ≡ length (s .args .frame .now)
 with-cipher c =
     let s = start₄ c in
-    let from = 17 + length (s .args .«data» .now) in
+    let from = dataAt + length (s .args .«data» .now) in
     let m : tie.After-copy3 = c .before .before .before .before .before in
     same-len-mid from (from + length (s .args .message .now) - from) (m .copy3 .last .0) (c .encrypt-in-place .last .1 .0) (c .encrypt-in-place .kept .1 .0) ∙ with-message m
 

@@ -3,9 +3,10 @@ use Prim.Native.Nat.{_≤_}
 use mathlib.Core.Path.{_≡_, sym, ap, _∙_}
 use native.Mathlib.Omega.{arith}
 use lib.ListN.{length}
+use Rattle.answers.specs.Sizes.{mostFrame}
 use Rattle.hex.specs.Promise.{number}
-use Rattle.journal.specs.Tests.{firstFailing}
-use Rattle.journal.specs.Reader.{textTests}
+use Rattle.answers.specs.Rows.{firstFailing}
+use Rattle.journal.specs.Reader.{textRows}
 use Rattle.journal.proofs.Rows.{no-room, too-long, text-fails, text-passes}
 use Rattle.journal.proofs.Digits.{text-le, text-number, Digits, read-digits}
 use borrow.Author.Needs.{needs}
@@ -16,11 +17,11 @@ use Rattle.journal.proofs.text.read_text.Tie as tie
 start : tie.After-read → tie.Start
 start c = c .before .before .before .before .before .before
 
-big : (c : tie.After-read) → 353 ≤ length (start c .args .frame .now)
+big : (c : tie.After-read) → mostFrame ≤ length (start c .args .frame .now)
 unfolding start
 big c = c .before .before .before .if1 .left
 
-number-is : (c : tie.After-read) → number (c .read .result) ≡ firstFailing (textTests (start c .args .text .now))
+number-is : (c : tie.After-read) → number (c .read .result) ≡ firstFailing (textRows (start c .args .text .now))
 unfolding start
 number-is c = text-number (c .read .ensures) (c .before .before .if2 .left) (big c)
 

@@ -4,6 +4,7 @@ use mathlib.Core.Path.{_≡_, sym, ap, _∙_}
 use native.Mathlib.Omega.{arith}
 use lib.ListN.{length}
 use lib.Seq.{length-take-le}
+use Rattle.answers.specs.Sizes.{fixed}
 use Rattle.hex.specs.Promise.{written}
 use Rattle.journal.proofs.WriteLine.{data-long, message-long, no-room, Writes, writes}
 use borrow.Author.Needs.{needs}
@@ -34,7 +35,7 @@ slice-aggregate-write : tie.Need-slice-aggregate-write
 slice-aggregate-write c =
     let f : tie.After-seal-frame = c .before .before in
     let s : tie.Start = start f in
-    sym (length-take-le (33 + length (s .args .«data» .now) + length (s .args .message .now)) (f .seal-frame .last .1 .1 .1 .1 .0) (omega (arith, f .seal-frame .kept .1 .1 .1 .1 .0)))
+    sym (length-take-le (fixed + length (s .args .«data» .now) + length (s .args .message .now)) (f .seal-frame .last .1 .1 .1 .1 .0) (omega (arith, f .seal-frame .kept .1 .1 .1 .1 .0)))
 
 slice-write-line : tie.Need-slice-write-line
 slice-write-line c =

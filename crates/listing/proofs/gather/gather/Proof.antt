@@ -3,6 +3,7 @@ use Prim.Native.Nat.{_-_, _≤_}
 use mathlib.Core.Path.{_≡_, refl, sym, _∙_}
 use native.Mathlib.Omega.{arith}
 use lib.ListN.{length}
+use Rattle.listing.specs.Sizes.{longest}
 use Rattle.listing.specs.Pieces.{answersFrom}
 use lib.Seq.{length-take-le}
 use Rattle.listing.proofs.Gathered.{Gathered, begin}
@@ -12,7 +13,7 @@ use Rattle.listing.proofs.gather.gather.Tie as tie
 
 abbrev Inv-loop : tie.InvT-loop
 Inv-loop journal place key out₀ text₀ at₀ next₀ out text at next =
-    (next ≤ length journal) × (length text ≡ 597) × Gathered (answersFrom key journal place) out₀ out at (answersFrom key journal next)
+    (next ≤ length journal) × (length text ≡ longest) × Gathered (answersFrom key journal place) out₀ out at (answersFrom key journal next)
 
 abbrev μ-loop : tie.MeasureT-loop
 μ-loop journal place key out₀ text₀ at₀ next₀ out text at next = length journal - next

@@ -2,6 +2,7 @@
 use mathlib.Core.Path.{sym}
 use native.Mathlib.Omega.{arith}
 use lib.Seq.{length-take-le}
+use Rattle.listing.specs.Sizes.{keyDigits}
 use Rattle.listing.proofs.KeyLine.{too-short, no-newline, good-key, bad-key, no-other, no-lack}
 use borrow.Author.Needs.{needs}
 use Rattle.listing.proofs.key.key_line.Statement.{statement}
@@ -16,7 +17,7 @@ returns-2 c = no-newline _ (c .before .before .if1 .left) (c .if2 .taken)
 slice-aggregate-read : tie.Need-slice-aggregate-read
 slice-aggregate-read c =
     let s : tie.Start = c .before .before .before .before .before in
-    sym (length-take-le 32 (s .args .input .now) (omega arith))
+    sym (length-take-le keyDigits (s .args .input .now) (omega arith))
 
 returns-3 : tie.Need-returns-3
 returns-3 c =

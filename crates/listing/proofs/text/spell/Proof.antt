@@ -1,9 +1,10 @@
 -- The invariant: the digits of what is left, then those written, are the number's; and there is room for what is left.
 use mathlib.Core.Path.{_≡_, sym, _∙_}
 use mathlib.Core.List.{_++_, append-nil}
-use Prim.Native.Nat.{_+_, _^_, _≤_, _<_}
+use Prim.Native.Nat.{_+_, _^_, _<_}
 use native.Mathlib.Omega.{arith}
 use lib.ListN.{length, drop, length-set, drop-of-length-le}
+use Rattle.listing.specs.Sizes.{wordDigits}
 use Rattle.listing.specs.Decimal.{decimal}
 use Rattle.listing.proofs.Decimal.{room-left, tenth-fits, digit-put, last-put}
 use borrow.Author.Needs.{needs}
@@ -11,15 +12,15 @@ use Rattle.listing.proofs.text.spell.Statement.{statement}
 use Rattle.listing.proofs.text.spell.Tie as tie
 
 abbrev Inv-loop : tie.InvT-loop
-Inv-loop n digits₀ i₀ rest₀ digits i rest = (length digits ≡ 20) × (i ≤ 19) × (rest < 10 ^ (i + 1)) × (decimal rest ++ drop (i + 1) digits ≡ decimal n)
+Inv-loop n digits₀ i₀ rest₀ digits i rest = (length digits ≡ wordDigits) × (i < wordDigits) × (rest < 10 ^ (i + 1)) × (decimal rest ++ drop (i + 1) digits ≡ decimal n)
 
 abbrev μ-loop : tie.MeasureT-loop
 μ-loop n digits₀ i₀ rest₀ digits i rest = rest
 
 loop-holds : tie.Need-loop-holds Inv-loop μ-loop
 loop-holds c =
-    let h : length (c .args .digits .now) ≡ 20 = c .pre in
-    (h, omega arith, omega arith, rw (drop-of-length-le (c .args .digits .now) {i = 20} (omega arith)) (append-nil (decimal (c .args .n))))
+    let h : length (c .args .digits .now) ≡ wordDigits = c .pre in
+    (h, omega arith, omega arith, rw (drop-of-length-le (c .args .digits .now) {i = wordDigits} (omega arith)) (append-nil (decimal (c .args .n))))
 
 sub-i : tie.Need-sub-i Inv-loop μ-loop
 sub-i c =
@@ -40,7 +41,7 @@ loop-again c =
 same-length : tie.Need-same-length Inv-loop μ-loop
 same-length c =
     let q : tie.At-loop Inv-loop μ-loop = c .before in
-    let h : length (q .before .args .digits .now) ≡ 20 = q .before .pre in
+    let h : length (q .before .args .digits .now) ≡ wordDigits = q .before .pre in
     rw length-set (q .loop .inv .0 ∙ sym h)
 
 returns : tie.Need-returns Inv-loop μ-loop

@@ -7,7 +7,7 @@ use lib.ListN.{length, replicate}
 use Rattle.state.specs.Block.{opening}
 use Rattle.morus.specs.Seal.{unsealFrom, unsealTagFrom}
 use Rattle.morus.proofs.Blockwise.{length-bytes}
-use Rattle.morus.proofs.Numbers.{Short, if-passed}
+use Rattle.morus.proofs.Numbers.{Short, short-pass}
 use Rattle.morus.proofs.Promises.{open-lengths, open-same, open-other}
 use borrow.Author.Needs.{needs}
 use Rattle.morus.proofs.Morus.decrypt_in_place.Statement.{statement}
@@ -16,10 +16,10 @@ use Rattle.morus.proofs.Morus.decrypt_in_place.Tie as tie
 returns : tie.Need-returns
 returns c =
     let t : tie.Then1 = c .before .before .before .before in
-    open-lengths _ _ _ _ 0 _ (t .before .short-number .ensures) (t .if1 .taken) (λ n. absurd (n refl)) (c .before .before .fill .ensures)
+    open-lengths _ _ _ _ _ _ (t .before .short-number .ensures) (t .if1 .taken) (c .before .before .fill .ensures)
 
 passed : (l : tie.Else1) → Short (length (l .before .before .before .before .args .ad .now)) (length (l .before .before .before .before .args .mc .now))
-passed l = if-passed _ _ 0 (sym (l .before .short-number .ensures) ∙ l .if1 .left) .0
+passed l = short-pass _ _ (sym (l .before .short-number .ensures) ∙ l .if1 .left)
 
 tag-of-requires : tie.Need-tag-of-requires
 tag-of-requires c κs =

@@ -2,7 +2,7 @@
 use mathlib.Core.Path.{_≡_, refl, sym, _∙_}
 use lib.ListN.{length}
 use Rattle.morus.specs.Seal.{sealFrom, sealTagFrom}
-use Rattle.morus.proofs.Numbers.{Short, if-passed}
+use Rattle.morus.proofs.Numbers.{Short, short-pass}
 use Rattle.morus.proofs.Promises.{seal-refused, seal-done}
 use borrow.Author.Needs.{needs}
 use Rattle.morus.proofs.Morus.encrypt_in_place.Statement.{statement}
@@ -17,7 +17,7 @@ tag-of-requires c κs =
     let l : tie.Else1 = c .before .before .before .before .before in
     let s : tie.After-short-number = l .before in
     let q : tie.Start = s .before .before .before in
-    let p : Short (length (q .args .ad .now)) (length (q .args .mc .now)) = if-passed _ _ 0 (sym (s .short-number .ensures) ∙ l .if1 .left) .0 in
+    let p : Short (length (q .args .ad .now)) (length (q .args .mc .now)) = short-pass _ _ (sym (s .short-number .ensures) ∙ l .if1 .left) in
     (p .data-short, p .text-short)
 
 returns-2 : tie.Need-returns-2

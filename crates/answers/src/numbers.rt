@@ -1,21 +1,12 @@
-// The sizes of a frame and a line, and the numbers given back.
-
-pub const NEWLINE: u8 = 0x0a;
-
-pub const FILL: u8 = 0xaa;
-
-// Nonce, tag and the byte n: what a frame has beside data and message.
-pub const FIXED: usize = 33;
-
-pub const MOST_DATA: usize = 64;
-
-pub const MOST_MESSAGE: usize = 256;
-
-pub const MOST_FRAME: usize = 353;
-
-pub const MOST_DIGITS: usize = 706;
+// The numbers given back.
 
 pub const DONE: u8 = 0;
+
+pub const TAG_DIFFERS: u8 = 1;
+
+pub const TOO_LONG: u8 = 2;
+
+pub const OTHER_LENGTH: u8 = 3;
 
 pub const LINE_TOO_LONG: u8 = 4;
 
