@@ -1,0 +1,28 @@
+-- Copies: one byte more, a copy that fits, and a copy over the front.
+use mathlib.Core.Path.{_≡_, ap, sym, _∙_}
+use mathlib.Core.List.{List, _++_}
+use Prim.Native.Nat.{ℕ, _+_, _-_, _≤_, _<_, min}
+use native.Mathlib.Omega.{arith}
+use native.Mathlib.Numerals.{add-one}
+use native.Mathlib.Nat.{zero-add}
+use lib.ListN.{length, take, drop, getD, set, length-drop}
+use lib.Seq.{getD-drop, paste, paste-suc}
+use Rattle.buffers.specs.Copy.{partOver}
+
+pub copy-more : (d : List ℕ) (at : ℕ) (s : List ℕ) (from i : ℕ) → at + i < length d → from + i < length s
+    → set (paste d at (drop from s) i) (at + i) (getD s (from + i) 0) ≡ paste d at (drop from s) (i + 1)
+copy-more d at s from i hd hs =
+    rw (← getD-drop from s i 0)
+    (paste-suc d at (drop from s) i 0 hd (rw length-drop (omega arith))
+    ∙ ap (paste d at (drop from s)) (sym (add-one i)))
+
+-- n bytes that both buffers have
+pub part-fits : (d : List ℕ) (at : ℕ) (s : List ℕ) (from n : ℕ) → n ≤ length d - at → n ≤ length s - from
+    → partOver d at s from n ≡ paste d at (drop from s) n
+part-fits d at s from n hd hs =
+    let e : min (length d - at) (min (length s - from) n) ≡ n = omega arith in
+    ap (paste d at (drop from s)) e
+
+-- n bytes over the front of another list
+pub front-paste : (d s : List ℕ) (n : ℕ) → paste d 0 s n ≡ take n s ++ drop n d
+front-paste d s n = rw (zero-add n)

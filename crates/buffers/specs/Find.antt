@@ -1,0 +1,15 @@
+-- The search for a byte.
+use Prim.Native.Nat.{ℕ, suc, _+_}
+use mathlib.Core.Bool.{cond}
+use mathlib.Core.List.{List, [], _∷_}
+use lib.Dec.{eqb}
+use lib.ListN.{length, take, drop}
+
+-- the place of the first v, or the length where there is none
+abbrev pub indexOf : ℕ → List ℕ → ℕ
+indexOf v [] = 0
+indexOf v (x ∷ xs) = cond (eqb x v) 0 (suc (indexOf v xs))
+
+-- the place of the first v at or after `from`, or the length where there is none
+abbrev pub firstFrom : (v : ℕ) (b : List ℕ) (from : ℕ) → ℕ
+firstFrom v b from = length (take from b) + indexOf v (drop from b)
