@@ -1,24 +1,22 @@
--- What the listing shows of a line that the sealing made: 0, n, m and, where there is any, the very message that was sealed.
+-- What the listing shows of a line that the sealing made: reading hands out what was sealed, and the message stands in the
+-- opened frame behind the data.
 use Prim.Native.Nat.{ℕ, _+_}
 use mathlib.Core.Path.{_≡_, refl}
-use mathlib.Core.Bool.{cond}
-use mathlib.Core.List.{List, [], _∷_, _++_, append-assoc}
+use mathlib.Core.List.{List, _∷_, _++_, append-assoc}
 use native.Mathlib.Omega.{arith}
 use lib.ListN.{length, length-append}
 use lib.Seq.{take-at, drop-at}
-use lib.Dec.{ltb}
 use Rattle.morus.specs.Seal.{sealTag}
-use Rattle.hex.specs.Hex.{hexOf}
 use Rattle.journal.specs.Frame.{frameWith}
-use Rattle.run.specs.Line.{newline, lineAt}
+use Rattle.run.specs.Line.{lineAt}
 use Rattle.run.specs.Run.{entry}
 use Rattle.journal.specs.Line.{Made}
 use Rattle.journal.specs.Reader.{opened, readAt}
 use Rattle.journal.specs.Claims.{handed}
 use Rattle.journal.proofs.Opened.{hands-out}
-use Rattle.answers.specs.Numbers.{done}
 use Rattle.answers.specs.Sizes.{mostFrame, dataAt}
-use Rattle.listing.specs.Text.{space, spaced, messageAt, messageIn, shown, answerText}
+use Rattle.listing.specs.Claims.{sealedText}
+use Rattle.listing.specs.Text.{messageAt, messageIn, shown, answerText}
 
 -- the message of an opened frame, whatever stands behind the frame
 in-frame : (nonce ad message tag fill : List ℕ) → length nonce + 1 ≡ dataAt
@@ -30,9 +28,7 @@ in-frame nonce ad message tag fill h =
     rw (e, drop-at head (message ++ (tag ++ fill)) (messageAt (length ad)) n) (take-at message (tag ++ fill) (length message) refl)
 
 module _ (key j : List ℕ) (place : ℕ) (M : Made key (lineAt j place)) where
-  pub made-text : answerText (entry place (readAt key j place mostFrame))
-      ≡ spaced (place ∷ done ∷ length (M .ad) ∷ length (M .message) ∷ [])
-      ++ cond (ltb 0 (length (M .message))) (space ∷ hexOf (M .message)) [] ++ (newline ∷ [])
+  pub made-text : answerText (entry place (readAt key j place mostFrame)) ≡ sealedText place (M .ad) (M .message)
   unfolding answerText shown handed opened
   made-text =
       let tag = sealTag key (M .nonce) (M .ad) (M .message) in

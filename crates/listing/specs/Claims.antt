@@ -1,9 +1,14 @@
 -- The words of the theorems.
 use Prim.Native.Nat.{ℕ, _+_, _-_, _*_}
 use mathlib.Core.Path.{_≡_}
-use mathlib.Core.Bool.{true, false}
+use mathlib.Core.Bool.{true, false, cond}
 use mathlib.Core.List.{List, [], _∷_, _++_}
-use lib.ListN.{take}
+use lib.ListN.{length, take}
+use lib.Dec.{ltb}
+use Rattle.hex.specs.Hex.{hexOf}
+use Rattle.run.specs.Line.{newline}
+use Rattle.answers.specs.Numbers.{done}
+use Rattle.listing.specs.Text.{space, spaced}
 use Rattle.listing.specs.Promise.{PieceFilled}
 use Rattle.listing.specs.declared.report.Piece.{Piece}
 
@@ -14,6 +19,13 @@ pub data Written (input : List ℕ) : ℕ → List ℕ → Type 0 where
       → Written input place (take (r .length) out')
   more : {place : ℕ} {out out' text : List ℕ} {r : Piece} → PieceFilled input place out r out' → r .end ≡ false
       → Written input (r .next) text → Written input place (take (r .length) out' ++ text)
+
+-- what the listing shows of a line that the sealing made: its place, 0, n, m and, where there is any, the message
+abbrev pub sealedText : (place : ℕ) → (ad message : List ℕ) → List ℕ
+sealedText place ad message =
+    spaced (place ∷ done ∷ length ad ∷ length message ∷ [])
+    ++ cond (ltb 0 (length message)) (space ∷ hexOf message) []
+    ++ (newline ∷ [])
 
 -- the number that decimal digits say, behind digits that said `before`
 abbrev pub numberIn : (before : ℕ) → (digits : List ℕ) → ℕ
