@@ -9,24 +9,6 @@ use Rattle.answers.specs.Sizes.{nonceSize, dataAt, tagSize, fixed}
 use Rattle.morus.specs.Bytes.{Bytes}
 use Rattle.journal.specs.Frame.{frameWith, nIn, mIn, nonceIn, adIn, cipherIn, tagIn}
 
-pub bytes-cons : {x : ℕ} (s : List ℕ) → x < 256 → Bytes s → Bytes (x ∷ s)
-bytes-cons s h g zero = h
-bytes-cons s h g (suc i) = g i
-
-pub bytes-append : (s t : List ℕ) → Bytes s → Bytes t → Bytes (s ++ t)
-bytes-append [] t h g i = g i
-bytes-append (x ∷ xs) t h g zero = h 0
-bytes-append (x ∷ xs) t h g (suc i) = bytes-append xs t (λ j. h (suc j)) g i
-
-pub bytes-take : (n : ℕ) (s : List ℕ) → Bytes s → Bytes (take n s)
-bytes-take zero s h i = omega arith
-bytes-take (suc n) [] h i = omega arith
-bytes-take (suc n) (x ∷ xs) h zero = h 0
-bytes-take (suc n) (x ∷ xs) h (suc i) = bytes-take n xs (λ j. h (suc j)) i
-
-pub bytes-drop : (n : ℕ) (s : List ℕ) → Bytes s → Bytes (drop n s)
-bytes-drop n s h i = rw (getD-drop n s i 0) (h (n + i))
-
 pub frame-length : (nonce ad body tag : List ℕ) → length (frameWith nonce ad body tag) ≡ length nonce + (1 + (length ad + (length body + length tag)))
 frame-length nonce ad body tag = simp length-append (omega arith)
 

@@ -7,6 +7,7 @@ use native.Mathlib.Omega.{arith}
 use lib.ListN.{length, drop}
 use lib.Seq.{take-append-seam}
 use Rattle.answers.specs.Sizes.{dataAt, fixed, mostFrame}
+use Rattle.buffers.proofs.AllBytes.{bytes-cons, bytes-append, bytes-take, bytes-drop}
 use Rattle.morus.specs.Bytes.{Bytes}
 use Rattle.morus.specs.Seal.{seal, sealTag, unseal, accepts}
 use Rattle.morus.proofs.Laws.{seal-length, seal-bytes, tag-length, tag-bytes, unseal-length, unseal-bytes, own, back, only}
@@ -19,7 +20,7 @@ use Rattle.journal.specs.Line.{frameOf, lineOf, Fits, Made}
 use Rattle.answers.specs.Rows.{firstFailing}
 use Rattle.journal.specs.Reader.{tagRows, openedFrame, given, readText}
 use Rattle.journal.specs.Claims.{handed}
-use Rattle.journal.proofs.Frames.{bytes-cons, bytes-append, bytes-take, bytes-drop, Parts, parts, sound}
+use Rattle.journal.proofs.Frames.{Parts, parts, sound}
 use Rattle.journal.proofs.Rows.{GoodText, GoodFrame, line-pass, text-number, text-passes, frame-passes}
 use Rattle.journal.proofs.Sizes.{frame-size}
 
@@ -44,7 +45,7 @@ module _ (key : List ℕ) where
       record {
         bytes =
             bytes-append nonce (length ad ∷ (ad ++ (c ++ t))) (F .nonceBytes)
-            (bytes-cons (ad ++ (c ++ t)) (omega (arith, F .ad64))
+            (bytes-cons (length ad) (ad ++ (c ++ t)) (omega (arith, F .ad64))
             (bytes-append ad (c ++ t) (F .adBytes)
             (bytes-append c t (seal-bytes key nonce ad message (F .messageBytes)) (tag-bytes key nonce ad message))));
         len = frame-size key nonce ad message (F .nonce16);

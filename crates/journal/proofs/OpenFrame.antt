@@ -9,6 +9,10 @@ use lib.ListN.{length, getD, take, drop, replicate, length-drop, take-append-dro
 use lib.Seq.{take-take, take-at, drop-at, length-take-le, getD-take, paste}
 use Rattle.answers.specs.Sizes.{fill, nonceSize, dataAt, tagSize, fixed, mostData, mostFrame}
 use Rattle.answers.specs.Numbers.{done}
+use Rattle.buffers.specs.Bytes.{padded}
+use Rattle.buffers.specs.Copy.{partOver}
+use Rattle.buffers.proofs.Copies.{part-fits}
+use Rattle.buffers.proofs.Padding.{sixteen-out}
 use Rattle.morus.specs.Seal.{accepts}
 use Rattle.morus.specs.Morus.{begun, Decrypted}
 use Rattle.morus.specs.declared.Morus.{Morus}
@@ -94,9 +98,9 @@ module _ (b : List ℕ) (count : ℕ) (key : List ℕ)
     (small : count ≤ mostFrame) (most : mostFrame ≤ length b) (least : fixed + getD b nonceSize 0 ≤ count) (few : getD b nonceSize 0 ≤ mostData)
     {nonce tag held y : List ℕ} {r : ℕ} {w : Morus}
     (begins : w ≡ begun nonce key)
-    (nonce-is : nonce ≡ take nonceSize b)
-    (tag-is : tag ≡ take tagSize (drop (count - tagSize) b))
-    (held-is : held ≡ paste (replicate mostData 0) 0 (drop dataAt b) (getD b nonceSize 0))
+    (nonce-is : nonce ≡ padded nonceSize (drop 0 b))
+    (tag-is : tag ≡ padded tagSize (drop (count - tagSize) b))
+    (held-is : held ≡ partOver (replicate mostData 0) 0 b dataAt (getD b nonceSize 0))
     (said : Decrypted w (take (getD b nonceSize 0) held) (take (count - tagSize - (dataAt + getD b nonceSize 0)) (drop (dataAt + getD b nonceSize 0) b)) tag r y)
     (kept : length y ≡ length (take (count - tagSize - (dataAt + getD b nonceSize 0)) (drop (dataAt + getD b nonceSize 0) b))) where
   abbrev f : List ℕ
@@ -107,10 +111,10 @@ module _ (b : List ℕ) (count : ℕ) (key : List ℕ)
 
   settled : Decrypted (begun (nonceIn f) key) (adIn f) (cipherIn f) (tagIn f) r y
   settled =
-      let e : w ≡ begun (nonceIn f) key = begins ∙ ap (λ (x : List ℕ). begun x key) (nonce-is ∙ P .nonce-out) in
+      let e : w ≡ begun (nonceIn f) key = begins ∙ ap (λ (x : List ℕ). begun x key) (nonce-is ∙ sixteen-out b 0 (omega arith) ∙ P .nonce-out) in
       let n = getD b nonceSize 0 in
-      let d : take n held ≡ adIn f = ap (take n) held-is ∙ copied (replicate mostData 0) (drop dataAt b) n (omega (arith, length-drop dataAt b)) ∙ P .data-out in
-      same-call e d (P .cipher-out) (tag-is ∙ P .tag-out) said
+      let d : take n held ≡ adIn f = ap (take n) (held-is ∙ part-fits (replicate mostData 0) 0 b dataAt n (omega arith) (omega arith)) ∙ copied (replicate mostData 0) (drop dataAt b) n (omega (arith, length-drop dataAt b)) ∙ P .data-out in
+      same-call e d (P .cipher-out) (tag-is ∙ sixteen-out b (count - tagSize) (omega arith) ∙ P .tag-out) said
 
   few-data : length (adIn f) < 2 ^ 61
   few-data = omega (arith, P .data-length)

@@ -1,12 +1,13 @@
 -- The sealed frame is written front to back: after each step the buffer is what is written so far, then the rest of what it was.
-use Prim.Native.Nat.{ℕ, suc, _+_, _-_, _≤_, _<_}
-use mathlib.Core.Path.{_≡_, _∙_}
+use Prim.Native.Nat.{ℕ, suc, _+_, _-_, _≤_, _<_, min}
+use mathlib.Core.Path.{_≡_, _∙_, subst}
 use mathlib.Core.List.{List, [], _∷_, _++_, append-assoc}
 use native.Mathlib.Omega.{arith}
-use lib.ListN.{length, drop, set, length-append}
-use lib.Seq.{paste, take-length, drop-append-add, drop-drop, drop-cons, set-append-seam, append-snoc, drop-append-seam, take-append-seam}
+use lib.ListN.{length, drop, set, length-append, length-drop}
+use lib.Seq.{take-length, drop-append-add, drop-drop, drop-cons, set-append-seam, append-snoc, drop-append-seam, take-append-seam}
 use borrow.Rule.Slice.PartMut.{midOf, putMid}
-use Rattle.answers.specs.Sizes.{dataAt, fixed, mostData, mostMessage, mostFrame}
+use Rattle.answers.specs.Sizes.{nonceSize, dataAt, tagSize, fixed, mostData, mostMessage, mostFrame}
+use Rattle.buffers.specs.Copy.{allOver}
 use Rattle.morus.specs.Seal.{seal, sealTag}
 use Rattle.morus.specs.Morus.{begun, Encrypted}
 use Rattle.morus.specs.declared.Morus.{Morus}
@@ -23,8 +24,10 @@ on b p = p ++ drop (length p) b
 rest-on : (b p s : List ℕ) → drop (length p + length s) (on b p) ≡ drop (length (p ++ s)) b
 rest-on b p s = rw (drop-append-add, drop-drop, length-append)
 
-copy-on : (b p s : List ℕ) → paste (on b p) (length p) s (length s) ≡ on b (p ++ s)
-copy-on b p s = rw (take-append-seam, take-length s, rest-on b p s)
+copy-on : (b p s : List ℕ) → length p + length s ≤ length b → allOver (on b p) (length p) s ≡ on b (p ++ s)
+copy-on b p s h =
+    let k : min (length (on b p) - length p) (length s) ≡ length s = rw (length-append, length-drop) (omega arith) in
+    rw (k, take-append-seam, take-length s, rest-on b p s)
 
 pub set-on : (b p : List ℕ) (v : ℕ) → length p < length b → set (on b p) (length p) v ≡ on b (p ++ (v ∷ []))
 set-on b p v h =
@@ -52,16 +55,16 @@ whole b nonce ad c t k e =
 
 -- the steps of the sealing, each from the one before it
 pub seal-steps : (b key nonce ad message : List ℕ) {w : Morus} {r : Sealed} {f₁ f₂ f₃ f₄ y : List ℕ}
-    → length nonce ≡ 16
+    → length nonce ≡ nonceSize
     → length ad ≤ mostData
     → length message ≤ mostMessage
     → mostFrame ≤ length b
-    → f₁ ≡ paste b 0 nonce 16
-    → f₂ ≡ paste (set f₁ 16 (length ad)) dataAt ad (length ad)
-    → f₃ ≡ paste f₂ (dataAt + length ad) message (length message)
+    → f₁ ≡ allOver b 0 nonce
+    → f₂ ≡ allOver (set f₁ nonceSize (length ad)) dataAt ad
+    → f₃ ≡ allOver f₂ (dataAt + length ad) message
     → w ≡ begun nonce key
     → Encrypted w ad (midOf (dataAt + length ad) (dataAt + length ad + length message - (dataAt + length ad)) f₃) r y
-    → f₄ ≡ paste (putMid (dataAt + length ad) (dataAt + length ad + length message - (dataAt + length ad)) f₃ y) (dataAt + length ad + length message) (r .tag) 16
+    → f₄ ≡ allOver (putMid (dataAt + length ad) (dataAt + length ad + length message - (dataAt + length ad)) f₃ y) (dataAt + length ad + length message) (r .tag)
     → f₄ ≡ frameOf key nonce ad message ++ drop (fixed + length ad + length message) b
 seal-steps b key nonce ad message {w} {r} {f₁} {f₂} {f₃} {f₄} {y} len few short room h₁ h₂ h₃ begins said h₄ =
     let p = nonce ++ (length ad ∷ []) in
@@ -75,11 +78,12 @@ seal-steps b key nonce ad message {w} {r} {f₁} {f₂} {f₃} {f₄} {y} len fe
     let lm : dataAt + n + m - (dataAt + n) ≡ m = omega arith in
     let lc : length c ≡ m = seal-length key nonce ad message in
     let lqc : dataAt + n + m ≡ length (q ++ c) = omega (arith, length-append q c) in
-    let lt : length t ≡ 16 = tag-length key nonce ad message in
-    let e₁ : f₁ ≡ on b nonce = h₁ ∙ rw (← len, take-length nonce) in
-    let e₂ : f₂ ≡ on b q = h₂ ∙ rw (e₁, ← len, set-on b nonce n (omega arith), lp) (copy-on b p ad) in
-    let e₃ : f₃ ≡ on b (q ++ message) = h₃ ∙ rw (e₂, lq) (copy-on b q message) in
+    let lt : length t ≡ tagSize = tag-length key nonce ad message in
+    let e₁ : f₁ ≡ on b nonce = h₁ ∙ copy-on b [] nonce (omega arith) in
+    let e₀ : set (on b nonce) nonceSize n ≡ on b p = subst (λ (k : ℕ). set (on b nonce) k n ≡ on b p) len (set-on b nonce n (omega arith)) in
+    let e₂ : f₂ ≡ on b q = h₂ ∙ rw (e₁, e₀, lp) (copy-on b p ad (omega arith)) in
+    let e₃ : f₃ ≡ on b (q ++ message) = h₃ ∙ rw (e₂, lq) (copy-on b q message (omega arith)) in
     let x : midOf (dataAt + n) (dataAt + n + m - (dataAt + n)) f₃ ≡ message = rw (lm, e₃, lq) (mid-on b q message) in
     let E = encrypted nonce key (same-call begins x said) (omega arith) (omega arith) in
     let e₄ : putMid (dataAt + n) (dataAt + n + m - (dataAt + n)) f₃ y ≡ on b (q ++ c) = rw (lm, e₃, lq, E .2) (put-on b q message c lc) in
-    h₄ ∙ rw (e₄, E .1, ← lt, lqc) (copy-on b (q ++ c) t) ∙ whole b nonce ad c t (fixed + n + m) (omega (arith, frame-length nonce ad c t))
+    h₄ ∙ rw (e₄, E .1, lqc) (copy-on b (q ++ c) t (omega arith)) ∙ whole b nonce ad c t (fixed + n + m) (omega (arith, frame-length nonce ad c t))

@@ -1,11 +1,12 @@
 // A frame: nonce (16), n (1), data (n), ciphertext (m), tag (16). Sealing it, testing it, opening it, in a lent buffer.
 use crate::Verdict;
-use crate::bytes::copy;
-use crate::bytes::fill;
-use crate::bytes::sixteen;
 use crate::refusal::refuse;
 use answers::numbers;
 use answers::sizes;
+use buffers::copy;
+use buffers::copy_part;
+use buffers::fill;
+use buffers::sixteen;
 use morus::Key;
 use morus::Morus;
 use morus::Nonce;
@@ -27,13 +28,13 @@ pub(crate) fn seal_frame(key: Key, nonce: Nonce, data: &[u8], message: &[u8], fr
     let m = message.len();
     let start = sizes::DATA_AT + n;
     let end = start + m;
-    copy(frame, 0, &nonce, 0, sizes::NONCE);
+    copy(frame, 0, &nonce);
     frame[sizes::NONCE] = n as u8;
-    copy(frame, sizes::DATA_AT, data, 0, n);
-    copy(frame, start, message, 0, m);
+    copy(frame, sizes::DATA_AT, data);
+    copy(frame, start, message);
     let sealed = Morus::new(nonce, key).encrypt_in_place(&mut frame[start..end], data);
     let tag = sealed.tag;
-    copy(frame, end, &tag, 0, sizes::TAG);
+    copy(frame, end, &tag);
 }
 
 // The number of the first of the frame's tests that fails, or 0.
@@ -68,12 +69,12 @@ fn open_frame(count: usize, key: Key, frame: &mut [u8]) -> Verdict
     let tag = sixteen(frame, end);
     // The data is copied, since the buffer cannot be lent twice at a time.
     let mut data = [0u8; sizes::MOST_DATA];
-    copy(&mut data, 0, frame, sizes::DATA_AT, n);
+    copy_part(&mut data, 0, frame, sizes::DATA_AT, n);
     let number = Morus::new(nonce, key).decrypt_in_place(&mut frame[start..end], tag, &data[..n]);
     if number != numbers::DONE {
         return refuse(number, frame);
     }
-    fill(frame, count);
+    fill(frame, count, sizes::FILL);
     Verdict {
         number: numbers::DONE,
         n,

@@ -1,5 +1,4 @@
 // The line journal: sealed frames in lowercase hexadecimal, one to a line.
-mod bytes;
 mod frame;
 mod reader;
 mod refusal;

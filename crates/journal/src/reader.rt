@@ -5,30 +5,10 @@ use crate::refusal::refuse;
 use crate::text::read_text;
 use answers::numbers;
 use answers::sizes;
+use buffers::find;
 use morus::Key;
 ghost use mathlib.Core.Path.{_≡_};
-ghost use Prim.Native.Nat.{_+_, _≤_};
-ghost use lib.ListN.{length, drop};
-ghost use Rattle.run.specs.Line.{newlineAt};
 ghost use Rattle.journal.specs.Promise.{placed, LineRead};
-
-// The place of the first newline at or after `place`, or the journal's length where there is none.
-fn find_newline(journal: &[u8], place: usize) -> usize
-    requires { ⌜ place ≤ length (now journal) ⌝ }
-    ensures { λ r. ⌜ r ≡ place + newlineAt (drop place (now (journal .entry))) ⌝ }
-{
-    let mut i = place;
-    let end = loop {
-        if i == journal.len() {
-            break journal.len();
-        }
-        if journal[i] == b'\n' {
-            break i;
-        }
-        i += 1;
-    };
-    end
-}
 
 // A verdict with the place to go on from.
 fn answer(v: Verdict, next: usize) -> Answer
@@ -55,7 +35,7 @@ pub fn read_line(journal: &[u8], place: usize, key: Key, frame: &mut [u8]) -> An
     if place == journal.len() {
         return answer(refuse(numbers::END, frame), place);
     }
-    let end = find_newline(journal, place);
+    let end = find(journal, place, b'\n');
     if end == journal.len() {
         return answer(refuse(numbers::NO_NEWLINE, frame), end);
     }

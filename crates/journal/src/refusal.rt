@@ -1,6 +1,7 @@
 // Where every refusal of a line's text ends.
 use crate::Verdict;
-use crate::bytes::fill;
+use answers::sizes;
+use buffers::fill;
 ghost use lib.ListN.{length};
 ghost use Rattle.run.specs.Read.{refused};
 ghost use Rattle.journal.specs.Promise.{Gives};
@@ -9,6 +10,6 @@ ghost use Rattle.journal.specs.Promise.{Gives};
 pub(crate) fn refuse(number: u8, frame: &mut [u8]) -> Verdict
     ensures { λ r. ⌜ Gives (refused number (length (now (frame .entry)))) r (now (frame .exit)) ⌝ }
 {
-    fill(frame, 0);
+    fill(frame, 0, sizes::FILL);
     Verdict { number, n: 0, m: 0 }
 }

@@ -1,12 +1,13 @@
 -- Bytes put into a buffer: nothing, one byte, a copy, and one text behind another.
-use Prim.Native.Nat.{ℕ, suc, _+_, _≤_, _<_}
+use Prim.Native.Nat.{ℕ, suc, _+_, _-_, _≤_, _<_, min}
 use mathlib.Core.Path.{_≡_, refl, sym, ap, _∙_}
 use mathlib.Core.List.{List, [], _∷_, _++_, append-assoc}
 use native.Mathlib.Omega.{arith}
 use native.Mathlib.Nat.{add-zero}
 use native.Mathlib.Numerals.{add-one}
 use lib.ListN.{length, take, drop, set, length-append, length-drop}
-use lib.Seq.{paste, paste-zero, set-split, append-snoc, take-length, take-at, drop-at, drop-drop, length-take-le}
+use lib.Seq.{paste-zero, set-split, append-snoc, take-length, take-at, drop-at, drop-drop, length-take-le}
+use Rattle.buffers.specs.Copy.{allOver}
 use Rattle.listing.specs.Put.{Put}
 
 pub put-nil : (old : List ℕ) (at : ℕ) → Put old at [] at old
@@ -15,8 +16,10 @@ put-nil old at = record { behind = sym (add-zero at); buffer = paste-zero old at
 pub put-one : (old : List ℕ) (at b : ℕ) → at < length old → Put old at (b ∷ []) (at + 1) (set old at b)
 put-one old at b h = record { behind = refl; buffer = set-split old at b h ∙ rw (add-one, append-snoc (take at old) b (drop (suc at) old)) }
 
-pub put-copy : {old new now : List ℕ} {at : ℕ} → now ≡ paste old at new (length new) → Put old at new (at + length new) now
-put-copy {old} {new} e = record { behind = refl; buffer = rw (take-length new) at e }
+pub put-copy : {old new now : List ℕ} {at : ℕ} → now ≡ allOver old at new → at + length new ≤ length old → Put old at new (at + length new) now
+put-copy {old} {new} {now} {at} e h =
+    let k : min (length old - at) (length new) ≡ length new = omega arith in
+    record { behind = refl; buffer = e ∙ rw (k, take-length new) }
 
 module _ {old new now : List ℕ} {at r : ℕ} (p : Put old at new r now) (h : at ≤ length old) where
   head : length (take at old ++ new) ≡ r

@@ -2,6 +2,7 @@
 use crate::sizes;
 use answers::numbers;
 use answers::sizes::DATA_AT;
+use buffers::copy;
 use hex::Written;
 ghost use Prim.Native.Nat.{_+_, _*_, _<_, _≤_};
 ghost use mathlib.Core.Path.{_≡_};
@@ -21,11 +22,7 @@ pub(crate) fn put_bytes(text: &mut [u8], at: usize, bytes: &[u8]) -> usize
     requires { ⌜ at + length (now bytes) ≤ length (now text) ⌝ }
     ensures { λ r. ⌜ Put (now (text .entry)) at (now (bytes .entry)) r (now (text .exit)) ⌝ }
 {
-    let mut i = 0;
-    while i < bytes.len() {
-        text[at + i] = bytes[i];
-        i += 1;
-    }
+    copy(text, at, bytes);
     at + bytes.len()
 }
 

@@ -92,12 +92,3 @@ plain-at (x ∷ xs) h (suc i) l e = plain-at xs (plain-cons x xs h .1) i (omega 
 
 pub ended : (s : List ℕ) (place end : ℕ) → end ≡ place + newlineAt (drop place s) → place ≤ length s → end ≤ length s
 ended s place end e h = omega (arith, newlineAt-le (drop place s), length-drop place s)
-
-pub newlineAt-end : (s : List ℕ) (i : ℕ) → i ≡ length s → newlineAt (drop i s) ≡ 0
-newlineAt-end s i e = rw (e, drop-length)
-
-pub newlineAt-here : (s : List ℕ) (i : ℕ) → i < length s → getD s i 0 ≡ 10 → newlineAt (drop i s) ≡ 0
-newlineAt-here s i h e = rw (drop-cons s i 0, eq-eqb (getD s i 0) 10 e)
-
-pub newlineAt-step : (s : List ℕ) (i : ℕ) → i < length s → (getD s i 0 ≡ 10 → ⊥) → newlineAt (drop i s) ≡ suc (newlineAt (drop (i + 1) s))
-newlineAt-step s i h e = rw (add-one, drop-cons s i 0, ne-eqb (getD s i 0) 10 e)

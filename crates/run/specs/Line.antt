@@ -1,17 +1,15 @@
 -- The lines of a text. Each ends at the first newline.
-use Prim.Native.Nat.{ℕ, suc, _+_}
-use mathlib.Core.Bool.{cond}
-use mathlib.Core.List.{List, [], _∷_}
+use Prim.Native.Nat.{ℕ, _+_}
+use mathlib.Core.List.{List}
 use lib.ListN.{take, drop}
-use lib.Dec.{eqb}
+use Rattle.buffers.specs.Find.{indexOf}
 
 abbrev pub newline : ℕ
 newline = 0x0a
 
 -- the place of the first newline, or the length where there is none
 abbrev pub newlineAt : List ℕ → ℕ
-newlineAt [] = 0
-newlineAt (x ∷ xs) = cond (eqb x newline) 0 (suc (newlineAt xs))
+newlineAt = indexOf newline
 
 -- the bytes before it
 abbrev pub textOf : List ℕ → List ℕ

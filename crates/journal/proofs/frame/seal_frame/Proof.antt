@@ -38,23 +38,8 @@ with-cipher c =
     let m : tie.After-copy3 = c .before .before .before .before .before in
     same-len-mid from (from + length (s .args .message .now) - from) (m .copy3 .last .0) (c .encrypt-in-place .last .1 .0) (c .encrypt-in-place .kept .1 .0) ∙ with-message m
 
-copy-requires-2 : tie.Need-copy-requires-2
-copy-requires-2 c κs = (rw length-set (omega (arith, c .before .before .before .copy .kept .0)), omega arith)
-
-copy-requires-3 : tie.Need-copy-requires-3
-copy-requires-3 c κs = (omega (arith, with-data (c .before .before .before)), omega arith)
-
 part-encrypt-in-place-end : tie.Need-part-encrypt-in-place-end
 part-encrypt-in-place-end c = omega (arith, with-message (c .before .before .before))
-
-tag16 : tie.Need-slice-aggregate-copy-2
-tag16 c = search needs
-
-copy-requires-4 : tie.Need-copy-requires-4
-copy-requires-4 c κs =
-    let e : tie.After-encrypt-in-place = c .before .before .before .before .before in
-    let t : 16 ≡ length (e .encrypt-in-place .result .tag) = tag16 c in
-    (omega (arith, with-cipher e, start₄ e .pre), omega arith)
 
 same-length : tie.Need-same-length
 same-length c = c .before .before .copy4 .kept .0 ∙ with-cipher (c .before .before .before .before .before .before .before .before)
@@ -80,14 +65,14 @@ seal-frame-spec =
     (λ c κs. search needs)
     (λ c. search needs)
     (λ c. search needs)
-    copy-requires-2
-    copy-requires-3
+    (λ c κs. search needs)
+    (λ c κs. search needs)
     (λ c κs. search needs)
     (λ c. search needs)
     (λ c. search needs)
     part-encrypt-in-place-end
     (λ c κs. search needs)
     (λ c. search needs)
-    copy-requires-4
+    (λ c κs. search needs)
     same-length
     returns)

@@ -1,7 +1,10 @@
 -- Each return by the law of its row, from the tests that led there.
-use Prim.Native.Nat.{_<_}
+use Prim.Native.Nat.{_+_, _<_}
+use mathlib.Core.Path.{_≡_, _∙_}
 use native.Mathlib.Omega.{arith}
-use lib.ListN.{length}
+use lib.ListN.{length, drop}
+use Rattle.buffers.proofs.Finds.{first-within}
+use Rattle.run.specs.Line.{newline, newlineAt}
 use Rattle.run.proofs.Newline.{ended}
 use Rattle.run.proofs.Rows.{too-small, beyond, at-end, unended-at, found-at}
 use Rattle.journal.proofs.Promised.{promised}
@@ -16,6 +19,14 @@ start c = c .before .before .before .before .before
 inside : (c : tie.Else3) → start c .args .place < length (start c .args .journal .now)
 unfolding start
 inside c = omega arith
+
+-- what the search found, counted from the place
+at-newline : (c : tie.After-find) → let s = start (c .before) in
+    c .find .result ≡ s .args .place + newlineAt (drop (s .args .place) (s .args .journal .now))
+unfolding start
+at-newline c =
+    let s : tie.Start = start (c .before) in
+    c .find .ensures ∙ first-within newline (s .args .journal .now) (s .args .place) (omega (arith, inside (c .before)))
 
 returns : tie.Need-returns
 returns c =
@@ -40,12 +51,17 @@ unfolding start
 returns-4 c =
     let r : tie.After-refuse4 = c .before .before .before in
     let t : tie.Then4 = r .before .before in
-    let f : tie.After-find-newline = t .before in
+    let f : tie.After-find = t .before in
     promised (r .refuse4 .ensures) (c .answer4 .ensures)
-    (unended-at _ _ _ _ (f .before .before .before .if1 .left) (inside (f .before)) _ (f .find-newline .ensures) (t .if4 .taken))
+    (unended-at _ _ _ _ (f .before .before .before .if1 .left) (inside (f .before)) _ (at-newline f) (t .if4 .taken))
+
+sub-read-text : tie.Need-sub-read-text
+unfolding start
+sub-read-text c = omega (arith, at-newline (c .before))
 
 part-read-text-end : tie.Need-part-read-text-end
-part-read-text-end c = ended _ _ _ (c .before .find-newline .ensures) (omega arith)
+unfolding start
+part-read-text-end c = ended _ _ _ (at-newline (c .before)) (omega arith)
 
 add-answer : tie.Need-add-answer
 add-answer c = omega (arith, part-read-text-end (c .before .before .before .before .before))
@@ -55,9 +71,9 @@ unfolding start
 returns-5 c =
     let r : tie.After-read-text = c .before .before .before in
     let t : tie.Else4 = r .before .before .before in
-    let f : tie.After-find-newline = t .before in
+    let f : tie.After-find = t .before in
     promised (r .read-text .ensures) (c .answer5 .ensures)
-    (found-at _ _ _ _ (f .before .before .before .if1 .left) (inside (f .before)) _ (f .find-newline .ensures) (t .if4 .left))
+    (found-at _ _ _ _ (f .before .before .before .if1 .left) (inside (f .before)) _ (at-newline f) (t .if4 .left))
 
 pub read-line-spec : {M : Type 1} → statement M
 read-line-spec =
@@ -80,8 +96,8 @@ read-line-spec =
     (λ c κs. search needs)
     (λ c. search needs)
     returns-4
-    (λ c. search needs)
-    (λ c. search needs)
+    sub-read-text
+    sub-read-text
     part-read-text-end
     (λ c κs. search needs)
     add-answer
