@@ -1,9 +1,9 @@
 -- Bytes with zeros behind them: by the list, one byte at a time, and as what a copy over zeros leaves.
 use mathlib.Core.Path.{_≡_, refl, ap, sym, _∙_}
 use mathlib.Core.List.{List, [], _∷_, _++_}
-use Prim.Native.Nat.{ℕ, zero, suc, _+_, _≤_, min}
+use Prim.Native.Nat.{ℕ, zero, suc, _+_, _-_, _≤_, min}
 use native.Mathlib.Omega.{arith}
-use native.Mathlib.Nat.{zero-min, suc-min-suc, min-zero, sub-zero}
+use native.Mathlib.Nat.{zero-min, suc-min-suc, min-zero, sub-zero, suc-sub-suc}
 use lib.ListN.{length, take, drop, replicate, length-drop, length-replicate}
 use lib.Seq.{take-suc, take-all}
 use Rattle.buffers.specs.Bytes.{byte, padded}
@@ -24,6 +24,12 @@ padded-zeros : (n : ℕ) → replicate n 0 ≡ padded n []
 unfolding padded
 padded-zeros zero = refl
 padded-zeros (suc n) = ap (λ (l : List ℕ). 0 ∷ l) (padded-zeros n) ∙ sym (padded-none n)
+
+-- all that there is, and the zeros
+pub padded-behind : (n : ℕ) (b : List ℕ) → length b ≤ n → padded n b ≡ b ++ replicate (n - length b) 0
+padded-behind n [] h = rw sub-zero (sym (padded-zeros n))
+padded-behind zero (a ∷ b) h = absurd (omega arith)
+padded-behind (suc n) (a ∷ b) h = rw (padded-cons n a b, suc-sub-suc, padded-behind n b (omega arith))
 
 -- all of them there
 pub padded-take : (n : ℕ) (b : List ℕ) → n ≤ length b → padded n b ≡ take n b

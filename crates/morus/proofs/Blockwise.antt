@@ -1,16 +1,17 @@
 -- Messages by blocks: what one block adds, and what a loop over the blocks has still to do.
 use mathlib.Core.Path.{_≡_, refl, ap, sym, _∙_}
 use mathlib.Core.List.{List, [], _∷_, _++_, append-assoc, append-nil}
-use Prim.Native.Nat.{ℕ, zero, suc, _+_, _-_, _*_, _/_, _≤_, _<_, min}
+use Prim.Native.Nat.{ℕ, zero, suc, _+_, _-_, _*_, _≤_, _<_, min}
 use native.Mathlib.Nat.{zero-min, suc-min-suc, min-zero}
 use native.Mathlib.Omega.{arith}
 use lib.ListN.{length, take, drop, length-drop, length-append, length-take}
 use lib.Seq.{take-all, paste, length-paste, take-paste, drop-paste, drop-drop}
 use Rattle.state.specs.declared.State.{State}
-use Rattle.state.specs.Bytes.{padded, xorBytes}
+use Rattle.buffers.specs.Bytes.{padded}
+use Rattle.state.specs.Xor.{xorBytes}
 use Rattle.state.specs.Block.{stream, sealing, opening}
 use Rattle.morus.specs.Blocks.{blocks, bytesN, stateN, bytesBy, stateBy}
-use Rattle.state.proofs.Parts.{padded-cons}
+use Rattle.buffers.proofs.Padding.{padded-front}
 use Rattle.state.proofs.LaneBytes.{lane-padded}
 use Rattle.state.proofs.Xor.{length-xor}
 use Rattle.state.proofs.Streams.{length-stream, part-out}
@@ -115,11 +116,6 @@ taken {s₀} {s} {m} {i} v h =
     rw (state-none sealing s (drop i m) z) at (v .state)
 
 -- What the code does to the first block of b, or to all that is left.
-padded-front : (k : ℕ) (b : List ℕ) → length b ≤ k → take (length b) (padded k b) ≡ b
-padded-front k [] h = refl
-padded-front zero (a ∷ b) h = absurd (omega arith)
-padded-front (suc k) (a ∷ b) h = rw (padded-cons k a b, padded-front k b (omega arith))
-
 module _ (s : State) (b : List ℕ) {p : List ℕ} (ep : p ≡ padded 32 b) where
   -- sealed
   sealed-state : {s' : State} → s' ≡ sealing s p → s' ≡ sealing s b
@@ -127,7 +123,7 @@ module _ (s : State) (b : List ℕ) {p : List ℕ} (ep : p ≡ padded 32 b) wher
   sealed-state es = rw (es, ep, lane-padded)
 
   sealed-bytes : {d : List ℕ} (n : ℕ) → n ≡ min (length b) 32 → d ≡ xorBytes p (stream s) → take n d ≡ xorBytes b (stream s)
-  sealed-bytes n e ed = rw (ed, ep) (part-out b n e s)
+  sealed-bytes n e ed = rw (ed, ep) (part-out b n (omega arith) s)
 
   -- a whole block opened: what is xored of its block is what is xored of b
   whole-out : 32 ≤ length b → xorBytes p (stream s) ≡ xorBytes b (stream s)

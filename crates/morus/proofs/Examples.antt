@@ -2,7 +2,7 @@
 use mathlib.Core.Path.{_≡_, refl}
 use mathlib.Core.List.{[], _∷_}
 use Rattle.state.specs.declared.State.{State}
-use Rattle.state.specs.Bytes.{xorBytes}
+use Rattle.state.specs.Xor.{xorBytes}
 use Rattle.state.specs.Lane.{laneBytes, lane4, zeroLane}
 use Rattle.state.specs.Update.{state}
 use Rattle.state.specs.Block.{keyStream, stream}

@@ -12,14 +12,15 @@ use Rattle.answers.proofs.Rows.{AllPass, pass-zero, pass-first}
 use Rattle.state.specs.declared.State.{State}
 use Rattle.morus.specs.declared.Morus.{Morus}
 use Rattle.morus.specs.declared.Sealed.{Sealed}
-use Rattle.state.specs.Bytes.{Bytes, xorBytes}
+use Rattle.buffers.specs.Bytes.{Bytes}
+use Rattle.state.specs.Xor.{xorBytes}
 use Rattle.state.specs.Start.{start}
 use Rattle.state.specs.Block.{stream, sealing, opening}
 use Rattle.morus.specs.Blocks.{blocks, bytesN, bytesBy, absorbed, reabsorbed}
 use Rattle.morus.specs.Seal.{lengths, sealFrom, sealTagFrom, unsealFrom, unsealTagFrom, acceptsFrom, seal, sealTag, unseal, accepts}
 use Rattle.morus.specs.Morus.{begun, lengthRows, intoRows, tagRows, Encrypted, Decrypted, EncryptedInto, DecryptedInto}
 use borrow.Author.Tests.{eq-eqb}
-use Rattle.state.proofs.AllBytes.{bytes-none, bytes-append, bytes-take, bytes-drop}
+use Rattle.buffers.proofs.AllBytes.{bytes-none, bytes-append, bytes-drop}
 use Rattle.state.proofs.Bounds.{stream-bytes}
 use Rattle.state.proofs.Xor.{xor-bytes}
 use Rattle.state.proofs.Tags.{length-tag, bytes-tag}

@@ -68,13 +68,6 @@ unfolding openedAt
 reopened zero to e s = record { number = s .number; buffer = s .buffer }
 reopened (suc k) to e s = record { number = s .number; buffer = rw e (s .buffer) }
 
--- a whole copy
-pub pasted-over : (c m : List ℕ) → length c ≡ length m → paste c 0 m (min (length c - 0) (length m)) ≡ m
-pasted-over c m e =
-    let k : min (length c - 0) (length m) ≡ length m = omega arith in
-    let z : drop (length m) c ≡ [] = drop-of-length-le c {i = length m} (omega arith) in
-    rw (k, zero-add, take-length m, z, append-nil)
-
 -- Refused by the rows before the tag's.
 pub open-lengths : (w : Morus) (d c out : List ℕ) (rows behind : List Row) {n : ℕ} {out' : List ℕ} → n ≡ firstFailing rows → (n ≡ 0 → ⊥)
     → out' ≡ replicate (length out) fill → Opening (firstFailing (rows ++ behind)) w d c out n out'

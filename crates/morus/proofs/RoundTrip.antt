@@ -1,29 +1,22 @@
 -- Opening undoes sealing, and sealing undoes opening, block after block, with no premise.
 use mathlib.Core.Path.{_≡_, refl, ap, sym, _∙_}
 use mathlib.Core.List.{List, [], _∷_, _++_}
-use Prim.Native.Nat.{ℕ, zero, suc, _+_, _/_, _≤_, _<_}
+use Prim.Native.Nat.{ℕ, zero, suc, _≤_, _<_}
 use native.Mathlib.Omega.{arith}
-use lib.ListN.{length, take, drop, length-drop, length-append, length-take, take-append-drop}
+use lib.ListN.{length, take, drop, length-drop, take-append-drop}
 use Rattle.state.specs.declared.State.{State}
-use Rattle.state.specs.Bytes.{padded, xorBytes}
+use Rattle.state.specs.Xor.{xorBytes}
 use Rattle.state.specs.Lane.{laneOf}
 use Rattle.state.specs.Update.{update}
 use Rattle.state.specs.Block.{stream, sealing, opening}
 use Rattle.morus.specs.Blocks.{blocks, bytesBy, stateBy}
-use Rattle.state.proofs.Parts.{padded-cons}
+use Rattle.buffers.proofs.Padding.{padded-first}
 use Rattle.state.proofs.LaneBytes.{lane-padded}
 use Rattle.state.proofs.Xor.{length-xor, xor-again}
 use Rattle.state.proofs.Streams.{length-stream}
 use Rattle.morus.proofs.Blockwise.{length-bytes, bytes-none, bytes-step, state-none, state-step}
 
 -- a part x with r behind it: x is a whole block, or r is empty
-padded-front : (n : ℕ) (x r : List ℕ) → (length x < n → length r ≡ 0) → padded n (x ++ r) ≡ padded n x
-unfolding padded
-padded-front zero x r h = refl
-padded-front (suc n) [] [] h = refl
-padded-front (suc n) [] (a ∷ r) h = absurd (omega (arith, h (omega arith)))
-padded-front (suc n) (a ∷ x) r h = rw (padded-cons, padded-cons, padded-front n x r (λ k. h (omega arith)))
-
 drop-front : (n : ℕ) (x r : List ℕ) → length x ≤ n → (length x < n → length r ≡ 0) → drop n (x ++ r) ≡ r
 drop-front zero [] r k h = refl
 drop-front zero (a ∷ x) r k h = absurd (omega arith)
@@ -32,9 +25,7 @@ drop-front (suc n) [] (a ∷ r) k h = absurd (omega (arith, h (omega arith)))
 drop-front (suc n) (a ∷ x) r k h = drop-front n x r (omega arith) (λ j. h (omega arith))
 
 lane-take : (m : List ℕ) → laneOf (take 32 m) ≡ laneOf m
-lane-take m =
-    let h : length (take 32 m) < 32 → length (drop 32 m) ≡ 0 = λ k. rw length-drop (omega (arith, length-take 32 m)) in
-    sym (lane-padded (take 32 m)) ∙ ap laneOf (sym (padded-front 32 (take 32 m) (drop 32 m) h)) ∙ lane-padded _ ∙ ap laneOf (take-append-drop 32 m)
+lane-take m = sym (lane-padded (take 32 m)) ∙ ap laneOf (padded-first 32 m) ∙ lane-padded m
 
 take-front : (n : ℕ) (x r : List ℕ) → length x ≤ n → (length x < n → length r ≡ 0) → take n (x ++ r) ≡ x
 take-front zero [] r k h = refl

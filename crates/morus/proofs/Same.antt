@@ -1,11 +1,11 @@
 -- Equal lists, and the bits that tell two bytes apart.
-use Prim.Native.Nat.{ℕ, zero, suc, _+_, _<_}
+use Prim.Native.Nat.{ℕ, _+_, _<_}
 use mathlib.Core.Path.{_≡_, refl, ap, ap₂, sym, _∙_}
 use mathlib.Core.Bool.{Bool, true, false, _&&_}
 use mathlib.Core.List.{List, [], _∷_}
 use native.Mathlib.Omega.{arith}
 use lib.Dec.{eqb}
-use lib.Bits.{bitOr, bitAnd, bitXor, or-add-and, and-le-l, and-le-r, xor-self, xor-zero-l}
+use lib.Bits.{bitOr, bitXor, or-add-and, and-le-l, and-le-r, xor-self, xor-zero-l}
 use lib.ListN.{length, getD}
 use lib.Seq.{ext-getD}
 use borrow.Author.Tests.{eq-eqb, ne-eqb, eqb-true}

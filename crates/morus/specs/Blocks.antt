@@ -3,7 +3,7 @@ use Prim.Native.Nat.{ℕ, zero, suc, _+_, _/_}
 use mathlib.Core.List.{List, [], _++_}
 use lib.ListN.{length, drop}
 use Rattle.state.specs.declared.State.{State}
-use Rattle.state.specs.Bytes.{xorBytes}
+use Rattle.state.specs.Xor.{xorBytes}
 use Rattle.state.specs.Block.{stream, sealing, opening}
 
 -- how many blocks b has: a last part of 1 to 31 bytes counts as one, and a length of 32k, 0 included, has no such part

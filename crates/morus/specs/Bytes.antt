@@ -1,2 +1,2 @@
 -- What the crates above say of bytes.
-pub use Rattle.state.specs.Bytes.{Bytes}
+pub use Rattle.buffers.specs.Bytes.{Bytes}

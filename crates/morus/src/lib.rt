@@ -1,16 +1,15 @@
 // MORUS-1280-128, after the Rust crate morus 0.1.5: the entry points. The answers are numbers of the table.
-mod bytes;
 mod message;
 
-use crate::bytes::fill;
 use crate::message::absorb;
 use crate::message::cover;
 use crate::message::tag_of;
 use crate::message::uncover;
 use answers::numbers;
 use answers::sizes;
+use buffers::copy;
+use buffers::fill;
 use state::State;
-use state::bytes::copy;
 ghost use mathlib.Core.Path.{_≡_};
 ghost use lib.ListN.{length};
 ghost use Rattle.answers.specs.Rows.{firstFailing};
@@ -106,14 +105,14 @@ impl Morus {
         let clen = mc.len();
         let number = short_number(adlen, clen);
         if number != numbers::DONE {
-            fill(mc, sizes::FILL);
+            fill(mc, 0, sizes::FILL);
             return number;
         }
         let own = tag_of(uncover(absorb(self.0, ad), mc), adlen, clen);
         if same_tag(tag, own) {
             return numbers::DONE;
         }
-        fill(mc, sizes::FILL);
+        fill(mc, 0, sizes::FILL);
         numbers::TAG_DIFFERS
     }
 
@@ -140,7 +139,7 @@ impl Morus {
         let clen = c.len();
         let number = into_number(ad.len(), clen, m.len());
         if number != numbers::DONE {
-            fill(m, sizes::FILL);
+            fill(m, 0, sizes::FILL);
             return number;
         }
         copy(m, 0, c);

@@ -1,11 +1,12 @@
 // Data and messages, block after block: whole blocks, then the last part.
-use crate::bytes::store;
+use buffers::copy;
 use state::State;
-use state::bytes::block;
-use state::bytes::copy;
+use state::block::block;
 use state::lane::Lane;
 ghost use mathlib.Core.Path.{_≡_};
-ghost use Prim.Native.Nat.{_<_, _^_};
+ghost use Prim.Native.Nat.{_-_, _<_, _^_, min};
+ghost use lib.ListN.{length};
+ghost use lib.Seq.{paste};
 ghost use Rattle.state.specs.Tag.{tag};
 ghost use Rattle.morus.specs.Blocks.{covered, absorbed, uncovered, reabsorbed};
 ghost use Rattle.morus.specs.Seal.{lengths};
@@ -25,6 +26,14 @@ pub(crate) fn absorb(s: State, ad: &[u8]) -> State
         return st.enc(&mut dst, block(ad, i));
     }
     st
+}
+
+// The block `b` over the bytes of `m` from byte `i` on, as far as `m` goes. By value: a sealed block then waits in memory
+// while the state is updated.
+fn store(m: &mut [u8], i: usize, b: [u8; 32])
+    ensures { λ _. ⌜ now (m .exit) ≡ paste (now (m .entry)) i b (min (length (now (m .entry)) - i) 32) ⌝ }
+{
+    copy(m, i, &b);
 }
 
 // Seals the message in place, and gives the state after it. A whole block is what `enc` does, written out: the back

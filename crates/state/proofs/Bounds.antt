@@ -1,21 +1,20 @@
 -- Every word of a lane stays below 2^64, whatever is done to it, and every byte below 256.
-use mathlib.Core.Path.{_≡_, refl, ap, sym, _∙_, subst}
 use mathlib.Core.List.{List, [], _∷_, _++_}
-use Prim.Native.Nat.{ℕ, zero, suc, _+_, _-_, _*_, _/_, _%_, _≤_, _<_, _^_}
+use Prim.Native.Nat.{ℕ, zero, suc, _+_, _-_, _*_, _/_, _%_, _<_, _^_}
 use native.Mathlib.Omega.{arith}
 use native.Mathlib.Nat.{mod-lt, lt-of-le-of-lt}
-use lib.ListN.{length, getD, set, replicate}
-use lib.Bits.{bitXor, bitAnd, xor-lt, and-lt, or-lt}
+use lib.ListN.{getD, set, replicate}
+use lib.Bits.{xor-lt, and-lt, or-lt}
 use lib.Pow.{pow-pos, shr-le}
 use Rattle.state.specs.declared.lane.Lane.{Lane}
 use Rattle.state.specs.declared.State.{State}
-use Rattle.state.specs.Bytes.{Bytes, byte, wordAt, bytesOf, xorBytes}
+use Rattle.buffers.specs.Bytes.{Bytes, wordAt, bytesOf}
 use Rattle.state.specs.Lane.{turn, word, laneBy, zeroLane, laneOf, laneBytes, _⊕_, _&_, turned, moved}
 use Rattle.state.specs.Update.{state, lane, put, step1, step2, step3, step4, step5, firstSteps, lastSteps, update, times}
 use Rattle.state.specs.Start.{constants, onesLane, loaded, startWith, start}
 use Rattle.state.specs.Block.{keyStream, stream}
 use Rattle.state.proofs.Turn.{turn-or}
-use Rattle.state.proofs.AllBytes.{bytes-append, bytes-same, bytes-tested, lane-bytes-bytes}
+use Rattle.buffers.proofs.AllBytes.{bytes-append, bytes-same, bytes-tested, word-bytes-bytes}
 
 -- every word is below 2^64
 pub record Words (a : Lane) : Type 0 where
@@ -151,7 +150,15 @@ start-sound key nonce hk hn =
     start-with-sound (lane-words (key ++ key) (bytes-append key key hk hk))
     (lane-words (nonce ++ replicate 16 0) (bytes-append nonce (replicate 16 0) hn (bytes-same 16 0 (omega arith))))
 
--- every byte of key stream is below 256
+-- every byte of a lane, and of key stream, is below 256
+lane-bytes-bytes : (a : Lane) → Bytes (laneBytes a)
+unfolding laneBytes
+lane-bytes-bytes a =
+    let b : ℕ → List ℕ = λ i. bytesOf (word a i) in
+    let h : (i : ℕ) → Bytes (bytesOf (word a i)) = λ i. word-bytes-bytes (word a i) in
+    bytes-append (b 0) (b 1 ++ b 2 ++ b 3) (h 0)
+    (bytes-append (b 1) (b 2 ++ b 3) (h 1) (bytes-append (b 2) (b 3) (h 2) (h 3)))
+
 pub stream-bytes : (s : State) → Bytes (stream s)
 unfolding stream
 stream-bytes s = lane-bytes-bytes (keyStream s)

@@ -13,7 +13,7 @@ state-determined p q = p ∙ sym q
 pub lane-determined : {a r₁ r₂ : Lane} → r₁ ≡ a → r₂ ≡ a → r₁ ≡ r₂
 lane-determined p q = p ∙ sym q
 
--- `masked`, `block` and `copy`
+-- `masked` and `block`
 pub bytes-determined : {b o₁ o₂ : List ℕ} → o₁ ≡ b → o₂ ≡ b → o₁ ≡ o₂
 bytes-determined p q = p ∙ sym q
 

@@ -1,22 +1,16 @@
 -- Bytes and their lane: the two ways between them undo each other, and xor may be done on either side.
-use mathlib.Core.Path.{_≡_, refl, ap, sym, _∙_}
+use mathlib.Core.Path.{_≡_, refl, ap, _∙_}
 use mathlib.Core.List.{List, [], _∷_, _++_}
-use Prim.Native.Nat.{ℕ, zero, suc, _+_, _*_, _≤_, _<_, _^_}
+use Prim.Native.Nat.{ℕ, _<_, _^_}
 use native.Mathlib.Omega.{arith}
-use lib.ListN.{length, take}
-use lib.Seq.{take-suc, take-length}
+use lib.ListN.{length}
 use Rattle.state.specs.declared.lane.Lane.{Lane}
-use Rattle.state.specs.Bytes.{Bytes, byte, padded, xorBytes}
+use Rattle.buffers.specs.Bytes.{Bytes, byte, padded}
+use Rattle.state.specs.Xor.{xorBytes}
 use Rattle.state.specs.Lane.{word, laneBy, laneOf, laneBytes, _⊕_}
-use Rattle.state.proofs.Words.{bytes-word, xor-word, word-bytes}
-
-pub padded-take : (n : ℕ) (b : List ℕ) → n ≤ length b → padded n b ≡ take n b
-unfolding padded
-padded-take zero b h = refl
-padded-take (suc n) b h = rw (take-suc b n 0, padded-take n b (omega arith))
-
-pub padded-whole : (b : List ℕ) → length b ≡ 32 → padded 32 b ≡ b
-padded-whole b h = padded-take 32 b (omega arith) ∙ ap (λ (n : ℕ). take n b) (sym h) ∙ take-length b
+use Rattle.buffers.proofs.Padding.{padded-whole}
+use Rattle.buffers.proofs.Words.{bytes-word, word-bytes}
+use Rattle.state.proofs.Words.{xor-word}
 
 -- only the first 32 bytes count, and zeros past the end
 pub lane-padded : (b : List ℕ) → laneOf (padded 32 b) ≡ laneOf b
@@ -35,17 +29,15 @@ module _ (b : List ℕ) (h : Bytes b) where
       (bytes-word _ _ _ _ _ _ _ _ (h 16) (h 17) (h 18) (h 19) (h 20) (h 21) (h 22) (h 23))
       (bytes-word _ _ _ _ _ _ _ _ (h 24) (h 25) (h 26) (h 27) (h 28) (h 29) (h 30) (h 31))
 
-  pub xor-lane : (k : Lane) → laneBytes (laneOf b ⊕ k) ≡ xorBytes (padded 32 b) (laneBytes k)
-  unfolding laneBytes laneOf padded _⊕_ xorBytes
-  xor-lane k =
-      four (xor-word _ _ _ _ _ _ _ _ (h 0) (h 1) (h 2) (h 3) (h 4) (h 5) (h 6) (h 7) (word k 0))
-      (xor-word _ _ _ _ _ _ _ _ (h 8) (h 9) (h 10) (h 11) (h 12) (h 13) (h 14) (h 15) (word k 1))
-      (xor-word _ _ _ _ _ _ _ _ (h 16) (h 17) (h 18) (h 19) (h 20) (h 21) (h 22) (h 23) (word k 2))
-      (xor-word _ _ _ _ _ _ _ _ (h 24) (h 25) (h 26) (h 27) (h 28) (h 29) (h 30) (h 31) (word k 3))
+pub xor-lane : (a k : Lane) → laneBytes (a ⊕ k) ≡ xorBytes (laneBytes a) (laneBytes k)
+unfolding laneBytes _⊕_ xorBytes
+xor-lane a k =
+    four (xor-word (word a 0) (word k 0)) (xor-word (word a 1) (word k 1)) (xor-word (word a 2) (word k 2))
+    (xor-word (word a 3) (word k 3))
 
 -- 32 bytes, through their lane and back
 pub bytes-of-lane : (b : List ℕ) → length b ≡ 32 → Bytes b → laneBytes (laneOf b) ≡ b
-bytes-of-lane b e h = bytes-lane b h ∙ padded-whole b e
+bytes-of-lane b e h = bytes-lane b h ∙ padded-whole 32 b e
 
 -- a lane, through its bytes and back
 pub by-bytes : (f : ℕ → ℕ) → ((i : ℕ) → f i < 2 ^ 64) → laneOf (laneBytes (laneBy f)) ≡ laneBy f

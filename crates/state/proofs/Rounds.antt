@@ -1,5 +1,5 @@
 -- Two and four updates a turn: what a turn adds to the count of updates.
-use mathlib.Core.Path.{_≡_, refl}
+use mathlib.Core.Path.{_≡_}
 use Prim.Native.Nat.{ℕ, suc, _+_, _*_}
 use native.Mathlib.Omega.{arith}
 use Rattle.state.specs.declared.lane.Lane.{Lane}

@@ -3,10 +3,10 @@ use mathlib.Core.Path.{_≡_}
 use lib.ListN.{length, length-take}
 use Rattle.state.specs.declared.lane.Lane.{Lane}
 use Rattle.state.specs.declared.State.{State}
-use Rattle.state.specs.Bytes.{Bytes}
+use Rattle.buffers.specs.Bytes.{Bytes}
 use Rattle.state.specs.Block.{stream}
 use Rattle.state.specs.Tag.{ended, tag}
-use Rattle.state.proofs.AllBytes.{bytes-take}
+use Rattle.buffers.proofs.AllBytes.{bytes-take}
 use Rattle.state.proofs.Bounds.{stream-bytes}
 use Rattle.state.proofs.Streams.{length-stream}
 

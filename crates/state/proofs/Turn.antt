@@ -1,8 +1,8 @@
 -- a left turn made of two shifts and an or
 use mathlib.Core.Path.{_≡_, sym, ap, ap₂, _∙_, subst}
-use Prim.Native.Nat.{ℕ, _+_, _-_, _*_, _/_, _%_, _^_, _<_, _≤_}
+use Prim.Native.Nat.{ℕ, _+_, _-_, _*_, _/_, _%_, _^_, _<_}
 use native.Mathlib.Omega.{arith}
-use native.Mathlib.Nat.{mul-div-cancel, mul-mod-left, add-zero}
+use native.Mathlib.Nat.{mul-mod-left, add-zero}
 use lib.Arith.{mod-mul}
 use lib.Bits.{bitOr, or-shifted}
 use lib.Pow.{pow-add, pow-pos, shr-lt, shl-shr}

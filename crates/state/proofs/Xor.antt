@@ -1,14 +1,15 @@
 -- Xor undoes itself, on numbers by their binary digits and on bytes one by one.
 use mathlib.Core.Path.{_≡_, refl, ap, ap₂, _∙_}
 use mathlib.Core.List.{List, [], _∷_, _++_}
-use Prim.Native.Nat.{ℕ, zero, suc, _+_, _*_, _/_, _%_, _≤_, _<_, min}
+use Prim.Native.Nat.{ℕ, zero, suc, _+_, _*_, _/_, _%_, _<_, min}
 use native.Mathlib.Nat.{div-add-mod', zero-min, suc-min-suc, min-zero}
 use native.Mathlib.Omega.{arith}
 use lib.Arith.{bin-ind}
 use lib.Bits.{bitXor, differ, xor-step, xor-shr, xor-mod, xor-self, xor-lt}
 use lib.ListN.{length, take}
-use Rattle.state.specs.Bytes.{Bytes, padded, xorBytes}
-use Rattle.state.proofs.Parts.{padded-cons}
+use Rattle.buffers.specs.Bytes.{Bytes, padded}
+use Rattle.state.specs.Xor.{xorBytes}
+use Rattle.buffers.proofs.Padding.{padded-cons}
 
 digit-back : (d e : ℕ) → d < 2 → e < 2 → differ (bitXor d e) e ≡ d
 digit-back zero zero hd he = refl
@@ -36,12 +37,16 @@ length-xor (a ∷ m) [] = rw min-zero
 length-xor (a ∷ m) (x ∷ k) = rw (suc-min-suc, length-xor m k)
 
 -- pad, xor and cut is xor
-pub xor-cut : (m k : List ℕ) → take (min (length m) (length k)) (xorBytes (padded (length k) m) k) ≡ xorBytes m k
+pub xor-cut : (n : ℕ) (m k : List ℕ) → min n (length k) ≡ min (length m) (length k)
+    → take n (xorBytes (padded (length k) m) k) ≡ xorBytes m k
 unfolding xorBytes padded
-xor-cut [] [] = refl
-xor-cut [] (x ∷ k) = rw zero-min
-xor-cut (a ∷ m) [] = rw min-zero
-xor-cut (a ∷ m) (x ∷ k) = rw (padded-cons (length k) a m, suc-min-suc, xor-cut m k)
+xor-cut zero [] k h = refl
+xor-cut (suc n) [] [] h = refl
+xor-cut (suc n) [] (x ∷ k) h = absurd (omega arith)
+xor-cut zero (a ∷ m) [] h = refl
+xor-cut zero (a ∷ m) (x ∷ k) h = absurd (omega arith)
+xor-cut (suc n) (a ∷ m) [] h = refl
+xor-cut (suc n) (a ∷ m) (x ∷ k) h = rw (padded-cons (length k) a m, xor-cut n m k (omega arith))
 
 -- the xor of m and k, with r behind it, xored again: m as far as k goes, where r stands behind a whole k only
 pub xor-again : (m k r : List ℕ) → (length m < length k → length r ≡ 0) → xorBytes (xorBytes m k ++ r) k ≡ take (length k) m

@@ -4,7 +4,7 @@ use mathlib.Core.List.{List}
 use lib.Bits.{bitAnd, bitXor}
 use Rattle.state.specs.declared.lane.Lane.{Lane}
 use Rattle.state.specs.declared.State.{State}
-use Rattle.state.specs.Bytes.{xorBytes}
+use Rattle.state.specs.Xor.{xorBytes}
 use Rattle.state.specs.Lane.{word, laneBy, laneOf, laneBytes}
 use Rattle.state.specs.Update.{S0, S1, S2, S3, update}
 

@@ -4,7 +4,7 @@ use mathlib.Core.List.{List, [], _∷_, _++_}
 use lib.ListN.{getD}
 use lib.Bits.{bitAnd, bitXor}
 use Rattle.state.specs.declared.lane.Lane.{Lane}
-use Rattle.state.specs.Bytes.{wordAt, bytesOf}
+use Rattle.buffers.specs.Bytes.{wordAt, bytesOf}
 
 infixl 60 _⊕_
 infixl 70 _&_

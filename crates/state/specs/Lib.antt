@@ -1,4 +1,4 @@
-pub mod Bytes
+pub mod Xor
 pub mod Lane
 pub mod Update
 pub mod Start

@@ -1,6 +1,6 @@
 // A lane: four words of 64 bits.
-use crate::bytes::put;
-use crate::bytes::word_at;
+use buffers::little::put;
+use buffers::little::word_at;
 ghost use mathlib.Core.Path.{_≡_};
 ghost use Prim.Native.Nat.{_<_};
 ghost use Rattle.state.specs.Lane.{turn, word, lane4, laneOf, laneBytes, _⊕_, _&_, turned, moved};

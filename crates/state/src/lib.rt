@@ -1,13 +1,15 @@
 // The state of MORUS-1280-128: five lanes, and the steps that take it on. What is public asks for nothing.
-pub mod bytes;
+pub mod block;
 pub mod lane;
 
-use crate::bytes::copy_part;
-use crate::bytes::part;
-use crate::bytes::room;
+use crate::block::block;
+use crate::block::part;
 use crate::lane::Lane;
+use buffers::copy;
+use buffers::sixteen;
 ghost use mathlib.Core.Path.{_≡_};
-ghost use Rattle.state.specs.Bytes.{padded, xorBytes};
+ghost use Rattle.buffers.specs.Bytes.{padded};
+ghost use Rattle.state.specs.Xor.{xorBytes};
 ghost use Rattle.state.specs.Update.{S0, S1, S2, S3, S4, firstSteps, lastSteps, update};
 ghost use Rattle.state.specs.Start.{startWith, start};
 ghost use Rattle.state.specs.Block.{keyStream, stream, sealing, opening};
@@ -115,9 +117,9 @@ impl State {
         ensures { λ r. ⌜ r ≡ start key nonce ⌝ }
     {
         let mut twice = [0u8; 32];
-        copy_part(&mut twice, 0, &key, 0, 16);
-        copy_part(&mut twice, 16, &key, 0, 16);
-        let n = part(&nonce, 0, 16);
+        copy(&mut twice, 0, &key);
+        copy(&mut twice, 16, &key);
+        let n = block(&nonce, 0);
         State::start(Lane::from_bytes(&twice), Lane::from_bytes(&n))
     }
 
@@ -154,9 +156,8 @@ impl State {
     pub fn dec_partial(self, dst: &mut [u8; 32], src: &[u8]) -> State
         ensures { λ r. ⌜ (r ≡ opening self (now (src .entry))) × (now (dst .exit) ≡ padded 32 (xorBytes (now (src .entry)) (stream self))) ⌝ }
     {
-        let n = room(src.len(), 0, 32);
-        let x = self.masked(part(src, 0, n));
-        let m = part(&x, 0, n);
+        let x = self.masked(block(src, 0));
+        let m = part(&x, 0, src.len());
         *dst = m;
         let p = Lane::from_bytes(&m);
         self.first(p).last(p)
@@ -178,9 +179,7 @@ impl State {
         }
         let mut b = [0u8; 32];
         st.key_stream().write(&mut b);
-        let mut tag = [0u8; 16];
-        copy_part(&mut tag, 0, &b, 0, 16);
-        *dst = tag;
+        *dst = sixteen(&b, 0);
         st
     }
 }

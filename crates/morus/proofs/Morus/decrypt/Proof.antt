@@ -1,9 +1,11 @@
 -- Refused by the lengths, or a copy and then in place.
 use mathlib.Core.Path.{_≡_, refl, sym, _∙_}
+use native.Mathlib.Nat.{sub-zero}
 use lib.ListN.{length}
+use Rattle.buffers.proofs.Copies.{all-alike}
 use Rattle.answers.specs.Rows.{firstFailing}
 use Rattle.morus.specs.Morus.{intoRows}
-use Rattle.morus.proofs.Promises.{open-lengths, into-fits, opened-into, pasted-over}
+use Rattle.morus.proofs.Promises.{open-lengths, into-fits, opened-into}
 use borrow.Author.Needs.{needs}
 use Rattle.morus.proofs.Morus.decrypt.Statement.{statement}
 use Rattle.morus.proofs.Morus.decrypt.Tie as tie
@@ -11,7 +13,7 @@ use Rattle.morus.proofs.Morus.decrypt.Tie as tie
 returns : tie.Need-returns
 returns c =
     let t : tie.Then1 = c .before .before .before .before in
-    open-lengths _ _ _ _ _ _ (t .before .into-number .ensures) (t .if1 .taken) (c .before .before .fill .ensures)
+    open-lengths _ _ _ _ _ _ (t .before .into-number .ensures) (t .if1 .taken) (rw sub-zero at (c .before .before .fill .ensures))
 
 abbrev start : tie.Else1 → tie.Start
 start l = l .before .before .before .before .before
@@ -26,7 +28,7 @@ returns-2 c =
     let l : tie.Else1 = k .before .before in
     let q : tie.Start = start l in
     let same : length (q .args .m .now) ≡ length (q .args .c .now) = into-fits (q .args .self) (q .args .ad .now) (q .args .c .now) (q .args .m .now) (passed l) .same in
-    opened-into (q .args .self) (q .args .ad .now) (q .args .c .now) (q .args .m .now) (passed l) (q .args .tag) (k .copy .ensures ∙ pasted-over (q .args .m .now) (q .args .c .now) same) (p .decrypt-in-place .ensures)
+    opened-into (q .args .self) (q .args .ad .now) (q .args .c .now) (q .args .m .now) (passed l) (q .args .tag) (k .copy .ensures ∙ all-alike (q .args .m .now) (q .args .c .now) same) (p .decrypt-in-place .ensures)
 
 pub decrypt-spec : {M : Type 1} → statement M
 decrypt-spec =

@@ -1,9 +1,10 @@
 -- Refused by the lengths, or a copy and then in place.
 use mathlib.Core.Path.{_≡_, refl, sym, _∙_}
 use lib.ListN.{length}
+use Rattle.buffers.proofs.Copies.{all-alike}
 use Rattle.answers.specs.Rows.{firstFailing}
 use Rattle.morus.specs.Morus.{intoRows}
-use Rattle.morus.proofs.Promises.{seal-refused, into-fits, sealed-into, pasted-over}
+use Rattle.morus.proofs.Promises.{seal-refused, into-fits, sealed-into}
 use borrow.Author.Needs.{needs}
 use Rattle.morus.proofs.Morus.encrypt.Statement.{statement}
 use Rattle.morus.proofs.Morus.encrypt.Tie as tie
@@ -25,7 +26,7 @@ returns-2 c =
     let l : tie.Else1 = k .before .before in
     let q : tie.Start = start l in
     let same : length (q .args .c .now) ≡ length (q .args .m .now) = into-fits (q .args .self) (q .args .ad .now) (q .args .m .now) (q .args .c .now) (passed l) .same in
-    sealed-into (q .args .self) (q .args .ad .now) (q .args .m .now) (q .args .c .now) (passed l) (k .copy .ensures ∙ pasted-over (q .args .c .now) (q .args .m .now) same) (p .encrypt-in-place .ensures)
+    sealed-into (q .args .self) (q .args .ad .now) (q .args .m .now) (q .args .c .now) (passed l) (k .copy .ensures ∙ all-alike (q .args .c .now) (q .args .m .now) same) (p .encrypt-in-place .ensures)
 
 pub encrypt-spec : {M : Type 1} → statement M
 encrypt-spec =

@@ -1,5 +1,5 @@
 -- Refused by the lengths, or what absorbing, covering and the tag ensure.
-use mathlib.Core.Path.{_≡_, refl, sym, _∙_}
+use mathlib.Core.Path.{refl, sym, _∙_}
 use lib.ListN.{length}
 use Rattle.morus.specs.Seal.{sealFrom, sealTagFrom}
 use Rattle.morus.proofs.Numbers.{Short, short-pass}

@@ -1,5 +1,4 @@
 -- `State::new` takes the key first.
-use mathlib.Core.Path.{ap}
 use Rattle.morus.specs.Morus.{begun}
 use borrow.Author.Needs.{needs}
 use Rattle.morus.proofs.Morus.new.Statement.{statement}

@@ -3,6 +3,7 @@ use mathlib.Core.Path.{_≡_, refl, ap, sym}
 use Prim.Native.Nat.{_≤_, _-_, _*_}
 use native.Mathlib.Omega.{arith}
 use lib.ListN.{length}
+use Rattle.buffers.specs.Bytes.{padded}
 use Rattle.state.specs.Lane.{laneBytes}
 use Rattle.state.specs.Update.{times}
 use Rattle.state.specs.Block.{stream}
@@ -29,25 +30,20 @@ loop-again c =
     let l : tie.At-loop Inv-loop μ-loop = q .before .before .before in
     (omega arith, two-more (l .loop .i) _ _ (l .loop .inv .1) (updated _ _ (q .before .first .ensures) (q .last .ensures)) (updated _ _ (c .before .first2 .ensures) (c .last2 .ensures)))
 
-slice-aggregate-copy-part-2 : tie.Need-slice-aggregate-copy-part-2 Inv-loop μ-loop
+slice-aggregate-sixteen : tie.Need-slice-aggregate-sixteen Inv-loop μ-loop
 unfolding laneBytes
-slice-aggregate-copy-part-2 c =
-    ap length (sym (c .before .before .write .ensures))
-
-copy-part-requires : tie.Need-copy-part-requires Inv-loop μ-loop
-unfolding laneBytes
-copy-part-requires c κs =
-    (search needs, omega (arith, ap length (c .before .before .write .ensures)))
+slice-aggregate-sixteen c =
+    ap length (sym (c .before .write .ensures))
 
 returns : tie.Need-returns Inv-loop μ-loop
-unfolding ended tag stream laneBytes
+unfolding ended tag stream laneBytes padded
 returns c =
-    let w : tie.After-write Inv-loop μ-loop = c .before .before .before .before in
+    let w : tie.After-write Inv-loop μ-loop = c .before .before in
     let k : tie.After-key-stream Inv-loop μ-loop = w .before .before in
     let l : tie.At-loop Inv-loop μ-loop = k .before .before in
     let e : 2 * l .loop .i ≡ 10 = omega arith in (
       rw (l .loop .inv .1, e, l .before .xor .ensures, l .before .before .lanes .ensures),
-      rw (c .before .copy-part .ensures, w .write .ensures, k .key-stream .ensures, l .loop .inv .1, e, l .before .xor .ensures, l .before .before .lanes .ensures),
+      rw (c .sixteen .ensures, w .write .ensures, k .key-stream .ensures, l .loop .inv .1, e, l .before .xor .ensures, l .before .before .lanes .ensures),
     )
 
 pub mac-spec : {M : Type 1} → statement M
@@ -69,7 +65,6 @@ mac-spec =
     loop-again
     (λ c κs. search needs)
     (λ c κs. search needs)
-    (λ c. search needs)
-    slice-aggregate-copy-part-2
-    copy-part-requires
+    slice-aggregate-sixteen
+    (λ c κs. search needs)
     returns)

@@ -1,9 +1,8 @@
 -- The calls' equations, then the law of xor over bytes and words.
-use mathlib.Core.Path.{_≡_}
 use Prim.Native.Nat.{ℕ}
 use mir.Val.{Fits}
 use mir.Syntax.{w8}
-use Rattle.state.specs.Bytes.{byte}
+use Rattle.buffers.specs.Bytes.{byte}
 use Rattle.state.proofs.Streams.{block-out}
 use borrow.Author.Needs.{needs}
 use Rattle.state.proofs.State.masked.Statement.{statement}

@@ -1,10 +1,12 @@
 -- The lanes of the key twice and of the nonce with zeros behind it, handed to `start`.
 use mathlib.Core.Path.{_≡_}
-use mathlib.Core.List.{List}
-use Prim.Native.Nat.{ℕ}
-use lib.ListN.{length}
+use mathlib.Core.List.{_++_}
+use native.Mathlib.Omega.{arith}
+use lib.ListN.{length, replicate}
+use Rattle.buffers.specs.Bytes.{padded}
+use Rattle.buffers.proofs.Padding.{padded-behind}
 use Rattle.state.specs.Start.{start}
-use Rattle.state.proofs.Parts.{then-zeros, twice}
+use Rattle.state.proofs.Parts.{twice}
 use borrow.Author.Needs.{needs}
 use Rattle.state.proofs.State.new.Statement.{statement}
 use Rattle.state.proofs.State.new.Tie as tie
@@ -13,12 +15,16 @@ returns : tie.Need-returns
 unfolding start
 returns c =
     let f : tie.After-from-bytes = c .before .before .before in
-    let n : tie.After-part = f .before .before in
-    let k : tie.After-copy-part2 = n .before .before .before in
-    let q : tie.Start = k .before .before .before .before .before .before .before in
+    let n : tie.After-block = f .before .before in
+    let k : tie.After-copy2 = n .before .before .before in
+    let j : tie.After-copy = k .before .before .before .before in
+    let q : tie.Start = j .before .before .before in
     let hk : length (q .args .t1) ≡ 16 = search needs in
     let hn : length (q .args .t2) ≡ 16 = search needs in
-    rw (c .start .ensures, c .before .from-bytes2 .ensures, f .from-bytes .ensures, n .part .ensures, k .copy-part2 .ensures, k .before .before .before .before .copy-part .ensures, twice (q .args .t1) hk, then-zeros (q .args .t2) hn)
+    let zeros : padded 32 (q .args .t2) ≡ q .args .t2 ++ replicate 16 0 =
+    rw hn at (padded-behind 32 (q .args .t2) (omega arith)) in
+    rw (c .start .ensures, c .before .from-bytes2 .ensures, f .from-bytes .ensures, n .block .ensures, k .copy2 .ensures)
+    (rw (j .copy .ensures, twice (q .args .t1) hk, zeros))
 
 pub new-spec : {M : Type 1} → statement M
 new-spec =

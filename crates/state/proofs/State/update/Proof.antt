@@ -1,6 +1,5 @@
 -- The two halves one after the other are the update, by its definition.
-use mathlib.Core.Path.{ap, _∙_}
-use Rattle.state.specs.Update.{update, lastSteps}
+use Rattle.state.specs.Update.{update}
 use borrow.Author.Needs.{needs}
 use Rattle.state.proofs.State.update.Statement.{statement}
 use Rattle.state.proofs.State.update.Tie as tie

@@ -7,7 +7,9 @@ use Rattle.state.proofs.lane.Lane.from_bytes.Tie as tie
 returns : tie.Need-returns
 unfolding laneOf
 returns c =
-    rw (c .word-at4 .ensures, c .before .word-at3 .ensures, c .before .before .word-at2 .ensures, c .before .before .before .word-at .ensures)
+    let w3 : tie.After-word-at3 = c .before .before in
+    let w2 : tie.After-word-at2 = w3 .before .before in
+    rw (c .word-at4 .ensures, w3 .word-at3 .ensures, w2 .word-at2 .ensures, w2 .before .before .word-at .ensures)
 
 pub from-bytes-spec : {M : Type 1} → statement M
 from-bytes-spec =

@@ -2,8 +2,8 @@
 use mathlib.Core.Path.{_≡_}
 use lib.ListN.{length}
 use borrow.Author.Needs.{needs}
-use Rattle.morus.proofs.bytes.store.Statement.{statement}
-use Rattle.morus.proofs.bytes.store.Tie as tie
+use Rattle.morus.proofs.message.store.Statement.{statement}
+use Rattle.morus.proofs.message.store.Tie as tie
 
 returns : tie.Need-returns
 returns c =
