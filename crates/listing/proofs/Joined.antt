@@ -7,19 +7,18 @@ use mathlib.Core.List.{List, [], _∷_, _++_, map, append-assoc, append-nil}
 use native.Mathlib.Omega.{arith}
 use lib.ListN.{length, take}
 use lib.Seq.{take-append-seam}
-use lib.Dec.{leb, eqb}
+use lib.Dec.{leb}
 use borrow.Author.Tests.{le-leb, leb-true, leb-false}
 use Rattle.run.specs.Read.{Reading}
 use Rattle.run.specs.Run.{Entry, entry, run}
 use Rattle.journal.specs.Reader.{readAt, runFrom}
 use Rattle.listing.specs.declared.report.Piece.{Piece}
-use Rattle.answers.specs.Numbers.{end}
 use Rattle.answers.specs.Sizes.{mostFrame}
 use Rattle.listing.specs.Sizes.{mostJournal}
 use Rattle.listing.specs.Text.{answerText}
 use Rattle.listing.specs.KeyLine.{goodKey, keyOf, journalOf}
 use Rattle.listing.specs.Listing.{answers, listing, badKey, tooBig}
-use Rattle.listing.specs.Pieces.{Part, part, alone, answersFrom, parts, front, rest, firstPlace, none}
+use Rattle.listing.specs.Pieces.{isEnd, Part, part, alone, answersFrom, parts, front, rest, firstPlace, none}
 use Rattle.listing.specs.Promise.{PieceFilled}
 use Rattle.listing.specs.Claims.{Written, last, more}
 use Rattle.listing.proofs.Steps.{step}
@@ -58,7 +57,7 @@ module _ (key j : List ℕ) (given : ℕ) where
       → Left (answersFrom key j) given p (length j) (rest room (answersFrom key j p))
   unfolding rest
   behind zero p room h l = absurd (omega arith)
-  behind (suc k) p room h l = rw (step key j p h .splits) (go (leb (length (answerText (entry p x))) room) (eqb (x .verdict .number) end) refl (behind k (x .next)))
+  behind (suc k) p room h l = rw (step key j p h .splits) (go (leb (length (answerText (entry p x))) room) (isEnd x) refl (behind k (x .next)))
     where
       x : Reading
       x = readAt key j p mostFrame
@@ -66,7 +65,7 @@ module _ (key j : List ℕ) (given : ℕ) where
       tail : Bool → List Part
       tail e = cond e [] (answersFrom key j (x .next))
 
-      go : (b e : Bool) → eqb (x .verdict .number) end ≡ e
+      go : (b e : Bool) → isEnd x ≡ e
           → ((room : ℕ) → x .next ≤ length j → length j < k + x .next → none (rest room (answersFrom key j (x .next))) ≡ false
           → Left (answersFrom key j) given (x .next) (length j) (rest room (answersFrom key j (x .next))))
           → none (cond b (rest (room - length (answerText (entry p x))) (tail e)) (part (entry p x) ∷ tail e)) ≡ false

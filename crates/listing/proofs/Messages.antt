@@ -1,5 +1,5 @@
--- What the listing shows of a line that the sealing made: reading hands out what was sealed, and the message stands in the
--- opened frame behind the data.
+-- What the listing shows of a line that the sealing made: reading hands out what was sealed, and the message stands in
+-- the opened frame behind the data.
 use Prim.Native.Nat.{ℕ, _+_}
 use mathlib.Core.Path.{_≡_, refl}
 use mathlib.Core.List.{List, _∷_, _++_, append-assoc}
@@ -25,7 +25,8 @@ in-frame nonce ad message tag fill h =
     let head = nonce ++ (length ad ∷ ad) in
     let e : frameWith nonce ad message tag ++ fill ≡ head ++ (message ++ (tag ++ fill)) = simp append-assoc in
     let n : length head ≡ messageAt (length ad) = omega (arith, length-append nonce (length ad ∷ ad)) in
-    rw (e, drop-at head (message ++ (tag ++ fill)) (messageAt (length ad)) n) (take-at message (tag ++ fill) (length message) refl)
+    let d = drop-at head (message ++ (tag ++ fill)) (messageAt (length ad)) n in
+    rw (e, d) (take-at message (tag ++ fill) (length message) refl)
 
 module _ (key j : List ℕ) (place : ℕ) (M : Made key (lineAt j place)) where
   pub made-text : answerText (entry place (readAt key j place mostFrame)) ≡ sealedText place (M .ad) (M .message)

@@ -5,19 +5,18 @@ use mathlib.Core.Bool.{Bool, true, false, cond}
 use mathlib.Core.List.{List, [], _∷_, _++_}
 use native.Mathlib.Omega.{arith}
 use lib.ListN.{length, drop, length-append}
-use lib.Dec.{leb, eqb}
+use lib.Dec.{leb}
 use borrow.Author.Tests.{le-leb, leb-true}
 use Rattle.run.specs.Read.{Reading}
 use Rattle.run.specs.Run.{entry}
 use Rattle.journal.specs.Reader.{readAt}
 use Rattle.listing.specs.declared.report.Piece.{Piece}
-use Rattle.answers.specs.Numbers.{end}
 use Rattle.answers.specs.Sizes.{mostFrame}
 use Rattle.listing.specs.Sizes.{mostJournal, roomForAny}
 use Rattle.listing.specs.Text.{answerText}
 use Rattle.listing.specs.KeyLine.{goodKey, keyOf, journalOf}
 use Rattle.listing.specs.Listing.{listing, badKey, tooBig}
-use Rattle.listing.specs.Pieces.{Part, alone, answersFrom, parts, front, rest, firstPlace, none, pieceOf}
+use Rattle.listing.specs.Pieces.{isEnd, Part, alone, answersFrom, parts, front, rest, firstPlace, none, pieceOf}
 use Rattle.listing.specs.Promise.{PieceFilled}
 use Rattle.listing.specs.Claims.{Written, last, more}
 use Rattle.listing.proofs.Lengths.{answer-length}
@@ -29,7 +28,7 @@ moves : (key j : List ℕ) (p room : ℕ) → roomForAny ≤ room → length j �
     → (p < firstPlace p (rest room (answersFrom key j p))) × (firstPlace p (rest room (answersFrom key j p)) ≤ length j)
 unfolding rest
 moves key j p room big small h =
-    rw (step key j p h .splits, le-leb (length (answerText (entry p x))) room (omega (arith, answer-length key j p mostFrame (omega arith)))) (go (eqb (x .verdict .number) end) refl)
+    rw (step key j p h .splits, le-leb (length (answerText (entry p x))) room (omega (arith, answer-length key j p mostFrame (omega arith)))) (go (isEnd x) refl)
   where
     x : Reading
     x = readAt key j p mostFrame
@@ -37,7 +36,7 @@ moves key j p room big small h =
     left : ℕ
     left = room - length (answerText (entry p x))
 
-    go : (e : Bool) → eqb (x .verdict .number) end ≡ e → none (rest left (cond e [] (answersFrom key j (x .next)))) ≡ false
+    go : (e : Bool) → isEnd x ≡ e → none (rest left (cond e [] (answersFrom key j (x .next)))) ≡ false
         → (p < firstPlace p (rest left (cond e [] (answersFrom key j (x .next))))) × (firstPlace p (rest left (cond e [] (answersFrom key j (x .next)))) ≤ length j)
     go true q f = clash f
     go false q f =

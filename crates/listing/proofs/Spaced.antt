@@ -36,7 +36,8 @@ put-first [] h p = absurd (omega arith)
 put-first (n ∷ ns) h p = rw (spaced-one n) p
 
 pub put-next : (ns : List ℕ) (i : ℕ) → 0 < i → i < length ns → {text mid text' : List ℕ} {at r : ℕ}
-    → Put text 0 (spaced (take i ns)) at mid → Put mid at (word (getD ns i 0)) r text' → Put text 0 (spaced (take (i + 1) ns)) r text'
+    → Put text 0 (spaced (take i ns)) at mid → Put mid at (word (getD ns i 0)) r text'
+    → Put text 0 (spaced (take (i + 1) ns)) r text'
 put-next ns i h l p q =
     let k : 0 < length (take i ns) = rw (length-take-le i ns (omega arith)) h in
     rw (add-one, take-suc ns i 0 l, spaced-more (take i ns) (getD ns i 0) k) (put-put p q (omega arith))

@@ -7,7 +7,6 @@ use mathlib.Core.List.{List, [], _∷_, map}
 use native.Mathlib.Omega.{arith}
 use native.Mathlib.Nat.{eq-or-lt-of-le}
 use lib.ListN.{length}
-use lib.Dec.{eqb}
 use borrow.Author.Tests.{le-leb, ne-eqb, eqb-false}
 use Rattle.run.specs.Read.{Reading, refused}
 use Rattle.run.specs.Run as Run
@@ -18,7 +17,7 @@ use Rattle.journal.specs.Reader.{readText, readAt, runFrom}
 use Rattle.journal.proofs.Rows.{not-end}
 use Rattle.answers.specs.Numbers.{end}
 use Rattle.answers.specs.Sizes.{mostFrame}
-use Rattle.listing.specs.Pieces.{part, answersFrom}
+use Rattle.listing.specs.Pieces.{isEnd, part, answersFrom}
 
 module _ (key j : List ℕ) where
   pub inside : (p : ℕ) → p ≤ length j → answersFrom key j p ≡ map part (runFrom key j mostFrame (suc (length j)) p)
@@ -26,8 +25,8 @@ module _ (key j : List ℕ) where
   inside p h = rw (le-leb p (length j) h)
 
   pub record Step (p : ℕ) : Type 0 where
-    pub splits : answersFrom key j p ≡ part (entry p (readAt key j p mostFrame)) ∷ cond (eqb (readAt key j p mostFrame .verdict .number) end) [] (answersFrom key j (readAt key j p mostFrame .next))
-    pub onward : eqb (readAt key j p mostFrame .verdict .number) end ≡ false → (p < readAt key j p mostFrame .next) × (readAt key j p mostFrame .next ≤ length j)
+    pub splits : answersFrom key j p ≡ part (entry p (readAt key j p mostFrame)) ∷ cond (isEnd (readAt key j p mostFrame)) [] (answersFrom key j (readAt key j p mostFrame .next))
+    pub onward : isEnd (readAt key j p mostFrame) ≡ false → (p < readAt key j p mostFrame .next) × (readAt key j p mostFrame .next ≤ length j)
 
   pub step : (p : ℕ) → p ≤ length j → Step p
   unfolding Run.runFrom refused

@@ -5,14 +5,12 @@ use mathlib.Core.Bool.{true, false, cond}
 use mathlib.Core.List.{List, [], _∷_}
 use native.Mathlib.Omega.{arith}
 use lib.ListN.{length, take}
-use lib.Dec.{eqb}
 use Rattle.journal.specs.Reader.{readAt}
 use Rattle.run.specs.Run.{entry}
 use Rattle.listing.specs.declared.gather.Shown.{Shown}
-use Rattle.answers.specs.Numbers.{end}
 use Rattle.answers.specs.Sizes.{mostFrame}
 use Rattle.listing.specs.Text.{answerText}
-use Rattle.listing.specs.Pieces.{part, answersFrom}
+use Rattle.listing.specs.Pieces.{isEnd, part, answersFrom}
 use Rattle.listing.specs.Put.{Put}
 use Rattle.listing.specs.Promise.{ShownAs, Filled}
 use Rattle.listing.proofs.Put.{put-front, put-within}
@@ -32,14 +30,14 @@ module _ {next : ℕ} {text text' : List ℕ} {s : Shown} (key j : List ℕ) (h 
     onward e = rw (h .next) (step key j next inside .onward (sym (h .end) ∙ e))
 
     module _ (place : ℕ) {at : ℕ} {before out : List ℕ} (g : Gathered (answersFrom key j place) before out at (answersFrom key j next)) where
-      here : Gathered (answersFrom key j place) before out at (part (entry next (readAt key j next mostFrame)) ∷ cond (eqb (readAt key j next mostFrame .verdict .number) end) [] (answersFrom key j (readAt key j next mostFrame .next)))
+      here : Gathered (answersFrom key j place) before out at (part (entry next (readAt key j next mostFrame)) ∷ cond (isEnd (readAt key j next mostFrame)) [] (answersFrom key j (readAt key j next mostFrame .next)))
       here = rw (step key j next inside .splits) at g
 
       pub no-room : length out - at < s .length → Filled (answersFrom key j place) place before (record { length = at; next = next; end = false }) out
       no-room l = stop here (omega (arith, h .put .behind, g .size)) place
 
       module _ {r : ℕ} {out' : List ℕ} (l : s .length ≤ length out - at) (p : Put out at (take (s .length) text') r out') where
-        gone : Gathered (answersFrom key j place) before out' r (cond (eqb (readAt key j next mostFrame .verdict .number) end) [] (answersFrom key j (readAt key j next mostFrame .next)))
+        gone : Gathered (answersFrom key j place) before out' r (cond (isEnd (readAt key j next mostFrame)) [] (answersFrom key j (readAt key j next mostFrame .next)))
         gone = go-on here (omega (arith, h .put .behind, g .size)) (rw shown-text at p)
 
         pub last : s .end ≡ true → Filled (answersFrom key j place) place before (record { length = r; next = place; end = true }) out'

@@ -10,7 +10,9 @@ use Rattle.listing.specs.Sizes.{keySize, keyDigits, keyLineSize}
 use Rattle.listing.specs.declared.key.KeyLine.{KeyLine}
 
 unfoldable pub goodKey : (input : List ℕ) → Bool
-goodKey input = leb keyLineSize (length input) && (eqb (getD input keyDigits 0) newline && allDigits (take keyDigits input))
+goodKey input =
+    leb keyLineSize (length input)
+    && (eqb (getD input keyDigits 0) newline && allDigits (take keyDigits input))
 
 abbrev pub keyOf : (input : List ℕ) → List ℕ
 keyOf input = unhex (take keyDigits input)

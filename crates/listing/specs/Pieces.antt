@@ -3,15 +3,21 @@ use Prim.Native.Nat.{ℕ, suc, _-_}
 use mathlib.Core.Bool.{Bool, true, false, cond}
 use mathlib.Core.List.{List, [], _∷_, _++_, map}
 use lib.ListN.{length}
-use lib.Dec.{leb}
+use lib.Dec.{leb, eqb}
+use Rattle.run.specs.Read.{Reading}
 use Rattle.run.specs.Run.{Entry}
 use Rattle.journal.specs.Reader.{runFrom}
+use Rattle.answers.specs.Numbers.{end}
 use Rattle.answers.specs.Sizes.{mostFrame}
 use Rattle.listing.specs.Sizes.{mostJournal}
 use Rattle.listing.specs.Text.{answerText}
 use Rattle.listing.specs.KeyLine.{goodKey, keyOf, journalOf}
 use Rattle.listing.specs.Listing.{badKey, tooBig}
 use Rattle.listing.specs.declared.report.Piece.{Piece}
+
+-- the answer behind which there is none
+abbrev pub isEnd : Reading → Bool
+isEnd x = eqb (x .verdict .number) end
 
 -- a text that is written whole or not at all, and the place that it belongs to
 pub record Part : Type 0 where

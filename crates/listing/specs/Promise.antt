@@ -3,15 +3,13 @@ use Prim.Native.Nat.{ℕ, _+_, _*_, _<_}
 use mathlib.Core.Path.{_≡_}
 use mathlib.Core.List.{List, _++_}
 use lib.ListN.{length, drop}
-use lib.Dec.{eqb}
 use Rattle.run.specs.Read.{Reading}
 use Rattle.run.specs.Run.{entry}
-use Rattle.answers.specs.Numbers.{end}
 use Rattle.listing.specs.Sizes.{wordDigits}
 use Rattle.listing.specs.Text.{spaced, answerText}
 use Rattle.listing.specs.Put.{Put}
 use Rattle.listing.specs.declared.gather.Shown.{Shown}
-use Rattle.listing.specs.Pieces.{parts, front, pieceOf, Part}
+use Rattle.listing.specs.Pieces.{isEnd, Part, parts, front, pieceOf}
 use Rattle.listing.specs.declared.report.Piece.{Piece}
 
 -- of the parts that are left
@@ -33,4 +31,4 @@ pub record PutNumbers (numbers text : List ℕ) (r : ℕ) (text' : List ℕ) : T
 pub record ShownAs (place : ℕ) (x : Reading) (text : List ℕ) (r : Shown) (text' : List ℕ) : Type 0 where
   pub put : Put text 0 (answerText (entry place x)) (r .length) text'
   pub next : r .next ≡ x .next
-  pub end : r .end ≡ eqb (x .verdict .number) end
+  pub end : r .end ≡ isEnd x

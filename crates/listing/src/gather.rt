@@ -27,7 +27,8 @@ pub(crate) struct Shown {
 // The answer at a place, as text at the buffer's front.
 fn show(journal: &[u8], place: usize, key: Key, text: &mut [u8]) -> Shown
     requires { ⌜ longest ≤ length (now text) ⌝ }
-    ensures { λ r. ⌜ ShownAs place (readAt key (now (journal .entry)) place mostFrame) (now (text .entry)) r (now (text .exit)) ⌝ }
+    ensures { λ r. ⌜ ShownAs place (readAt key (now (journal .entry)) place mostFrame)
+        (now (text .entry)) r (now (text .exit)) ⌝ }
 {
     let mut frame = [0u8; MOST_FRAME];
     let a = read_line(journal, place, key, &mut frame);
@@ -46,7 +47,8 @@ fn show(journal: &[u8], place: usize, key: Key, text: &mut [u8]) -> Shown
 // The answers from a place on, as many as fit.
 pub(crate) fn gather(journal: &[u8], place: usize, key: Key, out: &mut [u8]) -> Piece
     requires { ⌜ place ≤ length (now journal) ⌝ }
-    ensures { λ r. ⌜ Filled (answersFrom key (now (journal .entry)) place) place (now (out .entry)) r (now (out .exit)) ⌝ }
+    ensures { λ r. ⌜ Filled (answersFrom key (now (journal .entry)) place) place
+        (now (out .entry)) r (now (out .exit)) ⌝ }
 {
     let mut text = [0u8; sizes::LONGEST];
     let mut at = 0;
