@@ -1,6 +1,6 @@
 -- Demand 1, by cases on the checks in their order.
-use Prim.Native.Nat.{ℕ, zero, suc, _<_, _≤_, _^_}
-use mathlib.Core.Path.{_≡_, refl, ap, sym, _∙_}
+use Prim.Native.Nat.{ℕ, zero, suc, _<_, _^_}
+use mathlib.Core.Path.{_≡_, refl, ap, _∙_}
 use mathlib.Core.Logic.{inl, inr}
 use mathlib.Core.Bool.{Bool, true, false, cond}
 use mathlib.Core.List.{List, _++_}
@@ -15,7 +15,7 @@ use Rattle.morus.specs.Seal.{accepts}
 use Rattle.morus.specs.Morus.{begun, lengthRows, intoRows, tagRows, Sealing, Opening}
 use Rattle.morus.proofs.Promises.{sealing-refused, opening-refused}
 use Rattle.morus.proofs.Laws.{accepted-by}
-use Rattle.demands.specs.One.{Short, TooLong, SealAnswer, OpenAnswer, SealOutcome, OpenOutcome, Demand1}
+use Rattle.demands.specs.One.{Short, SealAnswer, OpenAnswer, SealOutcome, OpenOutcome, Demand1}
 
 both : {d m : List ℕ} → ltb (length d) (2 ^ 61) ≡ true → ltb (length m) (2 ^ 61) ≡ true → Short d m
 both a b = record { data-short = ltb-true _ _ a; text-short = ltb-true _ _ b }

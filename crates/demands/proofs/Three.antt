@@ -1,7 +1,4 @@
 -- Demand 3, from the laws of the run.
-use Prim.Native.Nat.{ℕ, _≤_}
-use mathlib.Core.Path.{_≡_, refl}
-use mathlib.Core.List.{List}
 use Rattle.run.specs.Run.{run}
 use Rattle.run.proofs.Run.{reads}
 use Rattle.run.proofs.Starts.{run-starts}
@@ -11,7 +8,7 @@ use Rattle.journal.specs.Reader.{readText}
 use Rattle.journal.proofs.Rows.{not-end}
 use Rattle.journal.proofs.Opened.{run-exactly}
 use Rattle.journal.proofs.Made.{made-once}
-use Rattle.demands.specs.Three.{Journal, Demand3}
+use Rattle.demands.specs.Three.{Demand3}
 
 pub demand3 : Demand3
 unfolding run

@@ -1,8 +1,6 @@
 -- The twelve cases: by computation, and the lengths of lines by their law.
-use Prim.Native.Nat.{ℕ, _*_, _+_}
-use mathlib.Core.Path.{_≡_, refl}
-use mathlib.Core.List.{List, [], _∷_}
-use lib.ListN.{length, replicate}
+use mathlib.Core.Path.{refl}
+use mathlib.Core.List.{[]}
 use Rattle.state.specs.Lane.{turn, laneOf, _⊕_, _&_, turned, moved}
 use Rattle.state.specs.Update.{step1, step2, step3, step4, step5, firstSteps, lastSteps, update}
 use Rattle.state.specs.Block.{keyStream}

@@ -1,16 +1,15 @@
 -- Demand 2, from the laws of sealing and opening.
 use Prim.Native.Nat.{ℕ, _<_, _^_}
-use mathlib.Core.Path.{_≡_, refl, ap, sym, _∙_}
-use mathlib.Core.Logic.{_↔_}
+use mathlib.Core.Path.{_≡_, refl, sym, _∙_}
 use mathlib.Core.Bool.{Bool, true, false}
 use mathlib.Core.List.{List}
 use native.Mathlib.Omega.{arith}
 use lib.ListN.{length}
 use Rattle.morus.specs.declared.Sealed.{Sealed}
-use Rattle.morus.specs.Seal.{seal, sealTag, unseal, accepts}
+use Rattle.morus.specs.Seal.{seal, sealTag, accepts}
 use Rattle.morus.specs.Morus.{begun, Decrypted}
 use Rattle.morus.proofs.Laws.{seal-length, tag-length, seal-bytes, tag-bytes, own, back, only, exactly, encrypted, opened, refused, encrypted-into, opened-alike}
-use Rattle.demands.specs.Two.{Seals, Opens, Reseals, Shape, Holds, Demand2}
+use Rattle.demands.specs.Two.{Seals, Opens, Reseals, Holds, Demand2}
 
 seals-by : {key nonce d m out' : List ℕ} {r : Sealed} → (r .number ≡ 0) × (r .tag ≡ sealTag key nonce d m) × (out' ≡ seal key nonce d m) → Seals key nonce d m r out'
 seals-by e = record { done = e .0; ciphertext = e .2; tag = e .1 }

@@ -1,7 +1,7 @@
 -- Document 01's twelve cases at the edges, as one table over the definitions.
-use Prim.Native.Nat.{ℕ, _+_, _*_, _^_}
+use Prim.Native.Nat.{ℕ, _+_, _^_}
 use mathlib.Core.Path.{_≡_}
-use mathlib.Core.List.{List, [], _∷_}
+use mathlib.Core.List.{List, []}
 use lib.ListN.{length, replicate}
 use Rattle.state.specs.Lane.{turn, word, lane4, zeroLane, laneOf}
 use Rattle.state.specs.Update.{state, zeroState, update}

@@ -1,12 +1,11 @@
 -- A frame and its parts.
-use Prim.Native.Nat.{ℕ, zero, suc, _+_, _-_, _≤_, _<_}
+use Prim.Native.Nat.{ℕ, _+_, _-_, _≤_}
 use mathlib.Core.Path.{_≡_, refl, sym, ap, _∙_}
 use mathlib.Core.List.{List, [], _∷_, _++_, append-assoc}
 use native.Mathlib.Omega.{arith}
 use lib.ListN.{length, take, drop, length-append, length-drop, take-append-drop}
-use lib.Seq.{split-at, take-at, drop-at, getD-at, append-snoc, length-take-le, getD-drop}
+use lib.Seq.{split-at, take-at, drop-at, getD-at, append-snoc, length-take-le}
 use Rattle.answers.specs.Sizes.{nonceSize, dataAt, tagSize, fixed}
-use Rattle.morus.specs.Bytes.{Bytes}
 use Rattle.journal.specs.Frame.{frameWith, nIn, mIn, nonceIn, adIn, cipherIn, tagIn}
 
 pub frame-length : (nonce ad body tag : List ℕ) → length (frameWith nonce ad body tag) ≡ length nonce + (1 + (length ad + (length body + length tag)))

@@ -1,9 +1,8 @@
 -- Demand 2: what sealing and opening are to each other. What the crates above may use, beside the contracts.
-use mathlib.Core.Path.{_≡_, refl, ap, ap₂, sym, _∙_}
-use mathlib.Core.Bool.{Bool, true, false, cond}
-use mathlib.Core.List.{List, [], _∷_, _++_}
-use Prim.Native.Nat.{ℕ, zero, suc, _≤_, _<_, _^_}
-use native.Mathlib.Omega.{arith}
+use mathlib.Core.Path.{_≡_, refl, ap, sym, _∙_}
+use mathlib.Core.Bool.{true, false}
+use mathlib.Core.List.{List}
+use Prim.Native.Nat.{ℕ, zero, suc, _<_}
 use lib.ListN.{length, drop, replicate}
 use Rattle.answers.specs.Numbers.{done, tagDiffers}
 use Rattle.answers.specs.Sizes.{limit, fill}
@@ -16,7 +15,7 @@ use Rattle.buffers.specs.Bytes.{Bytes}
 use Rattle.state.specs.Xor.{xorBytes}
 use Rattle.state.specs.Start.{start}
 use Rattle.state.specs.Block.{stream, sealing, opening}
-use Rattle.morus.specs.Blocks.{blocks, bytesN, bytesBy, absorbed, reabsorbed}
+use Rattle.morus.specs.Blocks.{blocks, bytesN, bytesBy, absorbed}
 use Rattle.morus.specs.Seal.{lengths, sealFrom, sealTagFrom, unsealFrom, unsealTagFrom, acceptsFrom, seal, sealTag, unseal, accepts}
 use Rattle.morus.specs.Morus.{begun, lengthRows, intoRows, tagRows, Encrypted, Decrypted, EncryptedInto, DecryptedInto}
 use borrow.Author.Tests.{eq-eqb}

@@ -1,12 +1,10 @@
 -- What the entry points promise, met: each way out of each of them.
-use Prim.Native.Nat.{ℕ, zero, suc, _+_, _-_, _≤_, _<_, _^_, min}
-use mathlib.Core.Path.{_≡_, refl, ap, sym, _∙_}
+use Prim.Native.Nat.{ℕ, zero, suc}
+use mathlib.Core.Path.{_≡_, refl, sym, _∙_}
 use mathlib.Core.Bool.{Bool, true, false, cond}
-use mathlib.Core.List.{List, [], _++_, append-nil}
+use mathlib.Core.List.{List, _++_}
 use native.Mathlib.Omega.{arith}
-use native.Mathlib.Nat.{zero-add}
-use lib.ListN.{length, take, drop, replicate, drop-of-length-le}
-use lib.Seq.{paste, take-length}
+use lib.ListN.{length, replicate}
 use Rattle.answers.specs.Numbers.{done, tagDiffers}
 use Rattle.answers.specs.Sizes.{fill, tagSize}
 use Rattle.answers.specs.Rows.{Row, firstFailing}

@@ -11,7 +11,6 @@ use buffers::copy;
 use buffers::fill;
 use state::State;
 ghost use mathlib.Core.Path.{_≡_};
-ghost use lib.ListN.{length};
 ghost use Rattle.answers.specs.Rows.{firstFailing};
 ghost use Rattle.morus.specs.Seal.{same};
 ghost use Rattle.morus.specs.Morus.{begun, lengthRows, intoRows, Encrypted, Decrypted, EncryptedInto, DecryptedInto};

@@ -13,7 +13,6 @@ use lib.Seq.{getD-append-add, getD-append-seam}
 use lib.Dec.{eqb·suc-suc}
 use borrow.Author.Tests.{eq-eqb, ne-eqb}
 use Rattle.answers.specs.Sizes.{mostFrame}
-use Rattle.answers.specs.Numbers.{end}
 use Rattle.run.specs.Line.{newline, newlineAt, textOf}
 use Rattle.run.specs.Read.{Reader}
 use Rattle.run.specs.Run.{Entry, run, shiftEntry, places, isStart, startsAmong, starts}

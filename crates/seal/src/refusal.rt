@@ -2,7 +2,6 @@
 use crate::words::NO_WORD;
 use crate::words::NOT_DIGIT;
 use crate::words::NOT_SIXTEEN;
-use crate::words::NOT_THREE;
 use crate::words::ODD;
 use answers::numbers;
 use libc::STDERR_FILENO;

@@ -3,11 +3,12 @@ use libc::STDIN_FILENO;
 use libc::STDOUT_FILENO;
 ghost use Prim.Native.Nat.{_≤_};
 ghost use lib.ListN.{length};
+ghost use Rattle.listing.specs.Sizes.{roomForAny};
 
-// Writes piece after piece, up to the end. A write that fails ends it at once. In a buffer of 529 bytes any answer fits, so
-// every piece but the last moves on.
+// Writes piece after piece, up to the end. A write that fails ends it at once. Any answer fits into the buffer, so every
+// piece but the last moves on.
 fn list(input: &[u8], out: &mut [u8])
-    requires { ⌜ 529 ≤ length (now out) ⌝ }
+    requires { ⌜ roomForAny ≤ length (now out) ⌝ }
 {
     let mut place = 0;
     loop {

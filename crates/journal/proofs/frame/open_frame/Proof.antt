@@ -3,7 +3,7 @@ use mathlib.Core.Path.{sym}
 use native.Mathlib.Omega.{arith}
 use lib.ListN.{getD}
 use lib.Seq.{length-take-le}
-use Rattle.answers.specs.Sizes.{fill, nonceSize}
+use Rattle.answers.specs.Sizes.{nonceSize}
 use Rattle.journal.proofs.OpenFrame.{Settled, settle}
 use borrow.Author.Needs.{needs}
 use Rattle.journal.proofs.frame.open_frame.Statement.{statement}

@@ -1,7 +1,6 @@
 -- The answer is made as the definition says, and the fill starts at 0.
 use mathlib.Core.Path.{refl, _∙_}
 use native.Mathlib.Nat.{sub-zero}
-use Rattle.answers.specs.Sizes.{fill}
 use Rattle.run.specs.Read.{refused}
 use borrow.Author.Needs.{needs}
 use Rattle.journal.proofs.refusal.refuse.Statement.{statement}

@@ -1,5 +1,5 @@
 -- Refused by the lengths, or a copy and then in place.
-use mathlib.Core.Path.{_≡_, refl, sym, _∙_}
+use mathlib.Core.Path.{_≡_, sym, _∙_}
 use native.Mathlib.Nat.{sub-zero}
 use lib.ListN.{length}
 use Rattle.buffers.proofs.Copies.{all-alike}

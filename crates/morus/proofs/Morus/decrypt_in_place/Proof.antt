@@ -1,11 +1,8 @@
 -- Refused by the lengths, or judged by the tag that the opened text gives.
-use mathlib.Core.Path.{_≡_, refl, sym, ap, _∙_}
-use mathlib.Core.List.{List}
-use Prim.Native.Nat.{ℕ}
+use mathlib.Core.Path.{sym, _∙_}
 use native.Mathlib.Omega.{arith}
 use native.Mathlib.Nat.{sub-zero}
-use lib.ListN.{length, replicate}
-use Rattle.state.specs.Block.{opening}
+use lib.ListN.{length}
 use Rattle.morus.specs.Seal.{unsealFrom, unsealTagFrom}
 use Rattle.morus.proofs.Blockwise.{length-bytes}
 use Rattle.morus.proofs.Numbers.{Short, short-pass}
