@@ -1,9 +1,14 @@
 -- The search for a byte.
 use Prim.Native.Nat.{ℕ, suc, _+_}
-use mathlib.Core.Bool.{cond}
+use mathlib.Core.Bool.{Bool, false, cond, _||_}
 use mathlib.Core.List.{List, [], _∷_}
 use lib.Dec.{eqb}
 use lib.ListN.{length, take, drop}
+
+-- v is in the list
+abbrev pub has : ℕ → List ℕ → Bool
+has v [] = false
+has v (x ∷ xs) = eqb x v || has v xs
 
 -- the place of the first v, or the length where there is none
 abbrev pub indexOf : ℕ → List ℕ → ℕ

@@ -1,6 +1,6 @@
 -- The invariant: the search from `i` on ends where that from `from` on does. The measure is what is left of the buffer.
 use Prim.Native.Nat.{_-_}
-use mathlib.Core.Path.{_≡_, refl, sym, _∙_}
+use mathlib.Core.Path.{_≡_, sym, _∙_}
 use native.Mathlib.Omega.{arith}
 use lib.ListN.{length}
 use Rattle.buffers.specs.Find.{firstFrom}
@@ -18,18 +18,19 @@ abbrev μ-loop : tie.MeasureT-loop
 loop-again : tie.Need-loop-again Inv-loop μ-loop
 loop-again c =
     let q : tie.At-loop Inv-loop μ-loop = c .before .before .before in
-    let a = q .before .args in
+    let a = q .before .before .before .args in
     first-step (a .v) (a .b .now) (q .loop .i) (omega arith) (c .if2 .left) ∙ q .loop .inv
 
 returns : tie.Need-returns Inv-loop μ-loop
 returns c =
     let q : tie.At-loop Inv-loop μ-loop = c .before in
-    sym (first-end (q .before .args .v) (q .before .args .b .now) (q .loop .i) (c .if1 .taken)) ∙ q .loop .inv
+    let a = q .before .before .before .args in
+    sym (first-end (a .v) (a .b .now) (q .loop .i) (c .if1 .taken)) ∙ q .loop .inv
 
 returns-2 : tie.Need-returns-2 Inv-loop μ-loop
 returns-2 c =
     let q : tie.At-loop Inv-loop μ-loop = c .before .before .before in
-    let a = q .before .args in
+    let a = q .before .before .before .args in
     sym (first-here (a .v) (a .b .now) (q .loop .i) (omega arith) (c .if2 .taken)) ∙ q .loop .inv
 
 pub find-spec : {M : Type 1} → statement M
@@ -38,7 +39,8 @@ find-spec =
     (tie.spec
     Inv-loop
     μ-loop
-    (λ c. refl)
+    (λ c κs. search needs)
+    (λ c. c .skip .ensures)
     (λ c. search needs)
     (λ c. search needs)
     (λ c. search needs)
