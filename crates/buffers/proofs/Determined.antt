@@ -3,7 +3,7 @@ use mathlib.Core.Path.{_≡_, sym, _∙_}
 use mathlib.Core.List.{List}
 use Prim.Native.Nat.{ℕ}
 
--- `room`, `find`, `half_at` and `word_at`
+-- `find`, `half_at` and `word_at`
 pub number-determined : {n r₁ r₂ : ℕ} → r₁ ≡ n → r₂ ≡ n → r₁ ≡ r₂
 number-determined p q = p ∙ sym q
 

@@ -7,7 +7,6 @@ pub mod little;
 
 pub use crate::copying::copy;
 pub use crate::copying::copy_part;
-pub use crate::copying::room;
 pub use crate::copying::sixteen;
 pub use crate::filling::fill;
 pub use crate::finding::find;
