@@ -12,10 +12,10 @@ fn holds(b: &[u8], v: u8) -> bool
     ensures { λ r. ⌜ r ≡ has v (now (b .entry)) ⌝ }
 {
     let mut found = false;
-    let mut i: usize = 0;
-    while i < b.len() {
-        found = found | (b[i] == v);
-        i += 1;
+    let mut k: usize = 0;
+    while k < b.len() {
+        found = found | (b[k] == v);
+        k += 1;
     }
     found
 }

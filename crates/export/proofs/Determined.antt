@@ -7,32 +7,32 @@ use Rattle.journal.specs.declared.Answer.{Answer}
 use Rattle.export.specs.Promise.{SealedInPlace, OpenedInPlace, SealedInto, OpenedInto, Wrote, Read}
 
 module _ (key nonce ad : List ℕ) where
-  pub seal-in-place-determined : (text : List ℕ) {r₁ r₂ : ℕ} {x₁ x₂ t₁ t₂ : List ℕ}
+  pub votrikany-seal-in-place : (text : List ℕ) {r₁ r₂ : ℕ} {x₁ x₂ t₁ t₂ : List ℕ}
       → SealedInPlace key nonce ad text r₁ x₁ t₁ → SealedInPlace key nonce ad text r₂ x₂ t₂ → (r₁ ≡ r₂) × (x₁ ≡ x₂) × (t₁ ≡ t₂)
-  seal-in-place-determined text p q = (p .number ∙ sym (q .number), p .buffer ∙ sym (q .buffer), p .tag ∙ sym (q .tag))
+  votrikany-seal-in-place text p q = (p .number ∙ sym (q .number), p .buffer ∙ sym (q .buffer), p .tag ∙ sym (q .tag))
 
-  pub seal-determined : (message out : List ℕ) {r₁ r₂ : ℕ} {x₁ x₂ t₁ t₂ : List ℕ}
+  pub votrikany-seal : (message out : List ℕ) {r₁ r₂ : ℕ} {x₁ x₂ t₁ t₂ : List ℕ}
       → SealedInto key nonce ad message out r₁ x₁ t₁ → SealedInto key nonce ad message out r₂ x₂ t₂ → (r₁ ≡ r₂) × (x₁ ≡ x₂) × (t₁ ≡ t₂)
-  seal-determined message out p q = (p .number ∙ sym (q .number), p .buffer ∙ sym (q .buffer), p .tag ∙ sym (q .tag))
+  votrikany-seal message out p q = (p .number ∙ sym (q .number), p .buffer ∙ sym (q .buffer), p .tag ∙ sym (q .tag))
 
-  pub open-in-place-determined : (text tag : List ℕ) {r₁ r₂ : ℕ} {x₁ x₂ : List ℕ}
+  pub votrikany-open-in-place : (text tag : List ℕ) {r₁ r₂ : ℕ} {x₁ x₂ : List ℕ}
       → OpenedInPlace key nonce ad text tag r₁ x₁ → OpenedInPlace key nonce ad text tag r₂ x₂ → (r₁ ≡ r₂) × (x₁ ≡ x₂)
-  open-in-place-determined text tag p q = (p .number ∙ sym (q .number), p .buffer ∙ sym (q .buffer))
+  votrikany-open-in-place text tag p q = (p .number ∙ sym (q .number), p .buffer ∙ sym (q .buffer))
 
-  pub open-determined : (cipher tag out : List ℕ) {r₁ r₂ : ℕ} {x₁ x₂ : List ℕ}
+  pub votrikany-open : (cipher tag out : List ℕ) {r₁ r₂ : ℕ} {x₁ x₂ : List ℕ}
       → OpenedInto key nonce ad cipher tag out r₁ x₁ → OpenedInto key nonce ad cipher tag out r₂ x₂ → (r₁ ≡ r₂) × (x₁ ≡ x₂)
-  open-determined cipher tag out p q = (p .number ∙ sym (q .number), p .buffer ∙ sym (q .buffer))
+  votrikany-open cipher tag out p q = (p .number ∙ sym (q .number), p .buffer ∙ sym (q .buffer))
 
-  pub write-line-determined : (message line : List ℕ) {r₁ r₂ : ℕ} {x₁ x₂ : List ℕ} {s₁ s₂ : ℕ}
+  pub votrikany-write-line : (message line : List ℕ) {r₁ r₂ : ℕ} {x₁ x₂ : List ℕ} {s₁ s₂ : ℕ}
       → Wrote key nonce ad message line r₁ x₁ s₁ → Wrote key nonce ad message line r₂ x₂ s₂ → (r₁ ≡ r₂) × (x₁ ≡ x₂) × (s₁ ≡ s₂)
-  write-line-determined message line p q =
+  votrikany-write-line message line p q =
       let e = p .report ∙ sym (q .report) in
       (ap (λ (l : Line). l .number) e, p .buffer ∙ sym (q .buffer), ap (λ (l : Line). l .length) e)
 
-pub read-line-determined : (journal : List ℕ) (place : ℕ) (key frame : List ℕ) {r₁ r₂ : ℕ} {x₁ x₂ : List ℕ} {p₁ p₂ n₁ n₂ m₁ m₂ : ℕ}
+pub votrikany-read-line : (journal : List ℕ) (place : ℕ) (key frame : List ℕ) {r₁ r₂ : ℕ} {x₁ x₂ : List ℕ} {p₁ p₂ n₁ n₂ m₁ m₂ : ℕ}
     → Read journal place key frame r₁ x₁ p₁ n₁ m₁ → Read journal place key frame r₂ x₂ p₂ n₂ m₂
     → (r₁ ≡ r₂) × (x₁ ≡ x₂) × (p₁ ≡ p₂) × (n₁ ≡ n₂) × (m₁ ≡ m₂)
-read-line-determined journal place key frame p q =
+votrikany-read-line journal place key frame p q =
     let e = p .answer ∙ sym (q .answer) in (
       ap (λ (a : Answer). a .number) e,
       p .buffer ∙ sym (q .buffer),

@@ -17,22 +17,22 @@ one-opening : {k : ℕ} {w : Morus} {d c out : List ℕ} {r₁ r₂ : ℕ} {o₁
     → Opening k w d c out r₁ o₁ → Opening k w d c out r₂ o₂ → (r₁ ≡ r₂) × (o₁ ≡ o₂)
 one-opening p q = (p .number ∙ sym (q .number), p .buffer ∙ sym (q .buffer))
 
-pub new-determined : (nonce key : List ℕ) {r₁ r₂ : Morus} → r₁ ≡ begun nonce key → r₂ ≡ begun nonce key → r₁ ≡ r₂
-new-determined nonce key p q = p ∙ sym q
+pub new : (nonce key : List ℕ) {r₁ r₂ : Morus} → r₁ ≡ begun nonce key → r₂ ≡ begun nonce key → r₁ ≡ r₂
+new nonce key p q = p ∙ sym q
 
 module _ (w : Morus) (d : List ℕ) where
-  pub encrypt-in-place-determined : (m : List ℕ) {r₁ r₂ : Sealed} {o₁ o₂ : List ℕ}
+  pub encrypt-in-place : (m : List ℕ) {r₁ r₂ : Sealed} {o₁ o₂ : List ℕ}
       → Encrypted w d m r₁ o₁ → Encrypted w d m r₂ o₂ → (r₁ ≡ r₂) × (o₁ ≡ o₂)
-  encrypt-in-place-determined m p q = one-sealing p q
+  encrypt-in-place m p q = one-sealing p q
 
-  pub decrypt-in-place-determined : (c t : List ℕ) {r₁ r₂ : ℕ} {o₁ o₂ : List ℕ}
+  pub decrypt-in-place : (c t : List ℕ) {r₁ r₂ : ℕ} {o₁ o₂ : List ℕ}
       → Decrypted w d c t r₁ o₁ → Decrypted w d c t r₂ o₂ → (r₁ ≡ r₂) × (o₁ ≡ o₂)
-  decrypt-in-place-determined c t p q = one-opening p q
+  decrypt-in-place c t p q = one-opening p q
 
-  pub encrypt-determined : (m out : List ℕ) {r₁ r₂ : Sealed} {o₁ o₂ : List ℕ}
+  pub encrypt : (m out : List ℕ) {r₁ r₂ : Sealed} {o₁ o₂ : List ℕ}
       → EncryptedInto w d m out r₁ o₁ → EncryptedInto w d m out r₂ o₂ → (r₁ ≡ r₂) × (o₁ ≡ o₂)
-  encrypt-determined m out p q = one-sealing p q
+  encrypt m out p q = one-sealing p q
 
-  pub decrypt-determined : (c t out : List ℕ) {r₁ r₂ : ℕ} {o₁ o₂ : List ℕ}
+  pub decrypt : (c t out : List ℕ) {r₁ r₂ : ℕ} {o₁ o₂ : List ℕ}
       → DecryptedInto w d c t out r₁ o₁ → DecryptedInto w d c t out r₂ o₂ → (r₁ ≡ r₂) × (o₁ ≡ o₂)
-  decrypt-determined c t out p q = one-opening p q
+  decrypt c t out p q = one-opening p q

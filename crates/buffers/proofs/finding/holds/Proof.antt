@@ -11,22 +11,22 @@ use Rattle.buffers.proofs.finding.holds.Statement.{statement}
 use Rattle.buffers.proofs.finding.holds.Tie as tie
 
 abbrev Inv-loop : tie.InvT-loop
-Inv-loop b v found₀ i₀ found i = found || has v (drop i b) ≡ has v b
+Inv-loop b v found₀ k₀ found k = found || has v (drop k b) ≡ has v b
 
 abbrev μ-loop : tie.MeasureT-loop
-μ-loop b v found₀ i₀ found i = length b - i
+μ-loop b v found₀ k₀ found k = length b - k
 
 loop-again : tie.Need-loop-again Inv-loop μ-loop
 loop-again c =
     let q : tie.At-loop Inv-loop μ-loop = c .before .before in
     let a = q .before .args in
-    has-more (a .v) (a .b .now) (q .loop .i) (q .loop .found) (omega arith) ∙ q .loop .inv
+    has-more (a .v) (a .b .now) (q .loop .k) (q .loop .found) (omega arith) ∙ q .loop .inv
 
 returns : tie.Need-returns Inv-loop μ-loop
 returns c =
     let q : tie.At-loop Inv-loop μ-loop = c .before in
     let a = q .before .args in
-    sym (has-end (a .v) (a .b .now) (q .loop .i) (q .loop .found) (omega arith)) ∙ q .loop .inv
+    sym (has-end (a .v) (a .b .now) (q .loop .k) (q .loop .found) (omega arith)) ∙ q .loop .inv
 
 pub holds-spec : {M : Type 1} → statement M
 holds-spec =
