@@ -1,10 +1,10 @@
 -- Rows: which one fails first, by induction over the rows.
-use Prim.Native.Nat.{ℕ, zero, suc, _≤_, _<_}
+use Prim.Native.Nat.{ℕ, zero, suc, _<_}
 use mathlib.Core.Path.{_≡_, refl}
 use mathlib.Core.Bool.{Bool, true, false, cond, not, _&&_}
 use mathlib.Core.List.{List, [], _∷_, _++_}
 use native.Mathlib.Omega.{arith}
-use lib.Dec.{T, leb, leb→le, ltb, ltb→lt, eqb}
+use lib.Dec.{T, ltb, ltb→lt, eqb}
 use borrow.Author.Tests.{eq-eqb}
 use Rattle.answers.specs.Rows.{Row, firstFailing}
 
@@ -40,12 +40,12 @@ first-is p (r ∷ rs) h n = go (r .test) (first-is p rs (both (p (r .number)) (n
     go true ih n = ih n
     go false ih n = both (p (r .number)) (numbers p rs) h .0
 
-pub first-le : (k : ℕ) (rs : List Row) → T (numbers (λ n. leb n k) rs) → firstFailing rs ≤ k
-first-le k rs h = go (firstFailing rs) (first-is (λ n. leb n k) rs h)
+pub first-lt : (k : ℕ) (rs : List Row) → 0 < k → T (numbers (λ n. ltb n k) rs) → firstFailing rs < k
+first-lt k rs l h = go (firstFailing rs) (first-is (λ n. ltb n k) rs h)
   where
-    go : (n : ℕ) → ((n ≡ 0 → ⊥) → T (leb n k)) → n ≤ k
-    go zero f = omega arith
-    go (suc n) f = leb→le (suc n) k (f (omega arith))
+    go : (n : ℕ) → ((n ≡ 0 → ⊥) → T (ltb n k)) → n < k
+    go zero f = l
+    go (suc n) f = ltb→lt (suc n) k (f (omega arith))
 
 -- a number that no row has
 pub first-not : (k : ℕ) (rs : List Row) → 0 < k → T (numbers (λ n. not (eqb n k)) rs) → firstFailing rs ≡ k → ⊥

@@ -65,6 +65,6 @@ end = 14
 abbrev pub lineTooSmall : ℕ
 lineTooSmall = 15
 
--- each is below
+-- each is below: the listing counts on two digits
 abbrev pub numbersBelow : ℕ
 numbersBelow = 100

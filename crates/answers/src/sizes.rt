@@ -9,20 +9,20 @@ pub const FILL: u8 = 0xaa;
 // A frame has the byte n behind the nonce, and then its data.
 pub const NONCE: usize = 16;
 
-pub const DATA_AT: usize = 17;
+pub const DATA_AT: usize = NONCE + 1;
 
 pub const TAG: usize = 16;
 
 // Nonce, n and tag: what a frame has beside data and message.
-pub const FIXED: usize = 33;
+pub const FIXED: usize = DATA_AT + TAG;
 
 pub const MOST_DATA: usize = 64;
 
 pub const MOST_MESSAGE: usize = 256;
 
-pub const MOST_FRAME: usize = 353;
+pub const MOST_FRAME: usize = FIXED + MOST_DATA + MOST_MESSAGE;
 
 // The longest line, without its newline and with it.
-pub const MOST_DIGITS: usize = 706;
+pub const MOST_DIGITS: usize = 2 * MOST_FRAME;
 
-pub const MOST_LINE: usize = 707;
+pub const MOST_LINE: usize = MOST_DIGITS + 1;

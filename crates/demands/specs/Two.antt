@@ -7,7 +7,7 @@ use mathlib.Core.Logic.{_↔_}
 use mathlib.Core.List.{List}
 use lib.ListN.{length}
 use Rattle.morus.specs.declared.Sealed.{Sealed}
-use Rattle.morus.specs.Bytes.{Bytes}
+use Rattle.buffers.specs.Bytes.{Bytes}
 use Rattle.morus.specs.Seal.{seal, sealTag}
 use Rattle.morus.specs.Morus.{begun, Encrypted, Decrypted, EncryptedInto, DecryptedInto}
 

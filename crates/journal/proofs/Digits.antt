@@ -6,21 +6,21 @@ use native.Mathlib.Omega.{arith}
 use lib.ListN.{length, take, drop}
 use lib.Seq.{take-at, take-all}
 use borrow.Author.Tests.{le-leb, eq-eqb}
-use Rattle.answers.specs.Numbers.{odd}
 use Rattle.answers.specs.Sizes.{mostFrame, mostDigits}
 use Rattle.hex.specs.Hex.{unhex}
-use Rattle.hex.specs.Promise.{number, stored, readOf, ReadOf}
+use Rattle.hex.specs.Promise.{noRoom, number, stored, readOf, ReadOf}
 use Rattle.hex.specs.declared.answer.Read.{Read}
 use Rattle.hex.specs.declared.answer.Read.the-variants as Answer
 use Rattle.hex.proofs.Laws.{decoded}
 use Rattle.answers.specs.Rows.{firstFailing}
 use Rattle.journal.specs.Reader.{textRows}
-use Rattle.answers.proofs.Rows.{first-le}
+use Rattle.answers.proofs.Rows.{first-not}
 use Rattle.journal.proofs.Rows.{GoodText, text-pass}
 
-pub text-le : (text : List ℕ) → firstFailing (textRows text) ≤ odd
+-- the digit reader's own number is none of the line's
+pub not-no-room : (text : List ℕ) → firstFailing (textRows text) ≡ noRoom → ⊥
 unfolding textRows
-text-le text = first-le odd (textRows text) tt
+not-no-room text = first-not noRoom (textRows text) (omega arith) tt
 
 -- the frame that was read
 pub record Digits (text bytes' : List ℕ) (count : ℕ) : Type 0 where

@@ -23,7 +23,7 @@ pub record Parts (f nonce ad body tag : List ℕ) : Type 0 where
 pub parts : (nonce ad body tag : List ℕ) → length nonce ≡ nonceSize → length tag ≡ tagSize → Parts (frameWith nonce ad body tag) nonce ad body tag
 parts nonce ad body tag hn ht =
     let f = frameWith nonce ad body tag in
-    let n : nIn f ≡ length ad = getD-at nonce (length ad) (ad ++ (body ++ tag)) 0 16 hn in
+    let n : nIn f ≡ length ad = getD-at nonce (length ad) (ad ++ (body ++ tag)) 0 nonceSize hn in
     let m : mIn f ≡ length body = rw n (omega (arith, frame-length nonce ad body tag)) in
     let d : drop dataAt f ≡ ad ++ (body ++ tag) =
     rw append-snoc at (drop-at (nonce ++ (length ad ∷ [])) (ad ++ (body ++ tag)) dataAt (omega (arith, length-append nonce (length ad ∷ [])))) in
@@ -31,7 +31,7 @@ parts nonce ad body tag hn ht =
     record {
       nIs = n;
       mIs = m;
-      nonceIs = take-at nonce (length ad ∷ (ad ++ (body ++ tag))) 16 hn;
+      nonceIs = take-at nonce (length ad ∷ (ad ++ (body ++ tag))) nonceSize hn;
       adIs = rw (n, d) (take-at ad (body ++ tag) (length ad) refl);
       bodyIs = rw (m, d2) (take-at body tag (length body) refl);
       tagIs = rw (m, d2) (drop-at body tag (length body) refl);
@@ -52,8 +52,8 @@ sound f h =
     let ln : length (drop (nIn f) d) ≡ length d - nIn f = length-drop (nIn f) d in
     let la : length (adIn f) ≡ nIn f = length-take-le (nIn f) d (omega arith) in
     record {
-      whole = rw (la, take-append-drop (mIn f), take-append-drop (nIn f)) (sym (split-at f 16 0 (omega arith)));
-      nonce16 = length-take-le 16 f (omega arith);
+      whole = rw (la, take-append-drop (mIn f), take-append-drop (nIn f)) (sym (split-at f nonceSize 0 (omega arith)));
+      nonce16 = length-take-le nonceSize f (omega arith);
       adLength = la;
       bodyLength = length-take-le (mIn f) (drop (nIn f) d) (omega arith);
       tag16 = length-drop (mIn f) (drop (nIn f) d) ∙ omega arith;
@@ -79,6 +79,6 @@ at-front nonce ad body tag rest nonce16 tag16 =
       body-at = λ i e. ap (drop i) by-body ∙ drop-at (nonce ++ (length ad ∷ ad)) (body ++ (tag ++ rest)) i (rw length-append (omega arith));
       tag-at = λ i e.
           ap (λ (x : List ℕ). take tagSize (drop i x)) by-tag
-          ∙ ap (take 16) (drop-at (nonce ++ (length ad ∷ (ad ++ body))) (tag ++ rest) i (rw (length-append nonce (length ad ∷ (ad ++ body)), length-append ad body) (omega arith)))
-          ∙ take-at tag rest 16 tag16;
+          ∙ ap (take tagSize) (drop-at (nonce ++ (length ad ∷ (ad ++ body))) (tag ++ rest) i (rw (length-append nonce (length ad ∷ (ad ++ body)), length-append ad body) (omega arith)))
+          ∙ take-at tag rest tagSize tag16;
     }

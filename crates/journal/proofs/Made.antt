@@ -6,9 +6,9 @@ use mathlib.Core.List.{List, [], _∷_, _++_}
 use native.Mathlib.Omega.{arith}
 use lib.ListN.{length, drop}
 use lib.Seq.{take-append-seam}
-use Rattle.answers.specs.Sizes.{dataAt, fixed, mostFrame}
+use Rattle.answers.specs.Sizes.{dataAt, fixed, mostFrame, nonceSize}
 use Rattle.buffers.proofs.AllBytes.{bytes-cons, bytes-append, bytes-take, bytes-drop}
-use Rattle.morus.specs.Bytes.{Bytes}
+use Rattle.buffers.specs.Bytes.{Bytes}
 use Rattle.morus.specs.Seal.{seal, sealTag, unseal, accepts}
 use Rattle.morus.proofs.Laws.{seal-length, seal-bytes, tag-length, tag-bytes, unseal-length, unseal-bytes, own, back, only}
 use Rattle.hex.specs.Hex.{hexOf, unhex}
@@ -104,7 +104,7 @@ module _ (key : List ℕ) where
           nonce16 = S .nonce16;
           ad64 = omega (arith, g .frame .few, S .adLength);
           message256 = omega (arith, g .frame .most, S .bodyLength, unseal-length key (nonceIn f) (adIn f) (cipherIn f));
-          nonceBytes = bytes-take 16 f (D .bytes);
+          nonceBytes = bytes-take nonceSize f (D .bytes);
           adBytes = bytes-take (nIn f) (drop dataAt f) (bytes-drop dataAt f (D .bytes));
           messageBytes = unseal-bytes key (nonceIn f) (adIn f) (cipherIn f) (bytes-take (mIn f) (drop (nIn f) (drop dataAt f)) rest);
         };

@@ -1,13 +1,13 @@
 -- Opening the frame f of `count` bytes at the front of a buffer b: what is copied out of b and lent from it are f's parts, what is put back makes the
 -- opened frame, and the cipher's answer is the number of the tag's row.
-use Prim.Native.Nat.{ℕ, _+_, _-_, _≤_, _<_, _^_}
+use Prim.Native.Nat.{ℕ, _+_, _-_, _≤_, _<_}
 use mathlib.Core.Path.{_≡_, refl, sym, ap, ap₂, _∙_}
 use mathlib.Core.Bool.{Bool, true, false, cond}
 use mathlib.Core.List.{List, _∷_, _++_, append-assoc}
 use native.Mathlib.Omega.{arith}
 use lib.ListN.{length, getD, take, drop, replicate, length-drop, take-append-drop}
 use lib.Seq.{take-take, take-at, drop-at, length-take-le, getD-take, paste}
-use Rattle.answers.specs.Sizes.{fill, nonceSize, dataAt, tagSize, fixed, mostData, mostFrame}
+use Rattle.answers.specs.Sizes.{limit, fill, nonceSize, dataAt, tagSize, fixed, mostData, mostFrame}
 use Rattle.answers.specs.Numbers.{done}
 use Rattle.buffers.specs.Bytes.{padded}
 use Rattle.buffers.specs.Copy.{partOver}
@@ -116,10 +116,10 @@ module _ (b : List ℕ) (count : ℕ) (key : List ℕ)
       let d : take n held ≡ adIn f = ap (take n) (held-is ∙ part-fits (replicate mostData 0) 0 b dataAt n (omega arith) (omega arith)) ∙ copied (replicate mostData 0) (drop dataAt b) n (omega (arith, length-drop dataAt b)) ∙ P .data-out in
       same-call e d (P .cipher-out) (tag-is ∙ sixteen-out b (count - tagSize) (omega arith) ∙ P .tag-out) said
 
-  few-data : length (adIn f) < 2 ^ 61
+  few-data : length (adIn f) < limit
   few-data = omega (arith, P .data-length)
 
-  few-cipher : length (cipherIn f) < 2 ^ 61
+  few-cipher : length (cipherIn f) < limit
   few-cipher = omega (arith, P .cipher-length)
 
   same-length : length (put b count y) ≡ length b

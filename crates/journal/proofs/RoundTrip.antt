@@ -7,7 +7,7 @@ use native.Mathlib.Nat.{add-zero}
 use lib.ListN.{length, take, drop, replicate, length-append}
 use lib.Seq.{take-at, append-snoc}
 use Rattle.answers.specs.Sizes.{nonceSize, fixed, mostFrame}
-use Rattle.morus.specs.Bytes.{Bytes}
+use Rattle.buffers.specs.Bytes.{Bytes}
 use Rattle.morus.specs.Seal.{sealTag}
 use Rattle.morus.proofs.Laws.{tag-length}
 use Rattle.hex.specs.Hex.{hexOf}

@@ -10,14 +10,14 @@ use borrow.Author.Tests.{le-leb, lt-leb, leb-true, leb-false, eqb-true, eq-eqb}
 use Rattle.answers.specs.Numbers.{lineTooLong, bufferTooSmall, end, numbersBelow}
 use Rattle.answers.specs.Sizes.{nonceSize, fixed, mostData, mostMessage, mostFrame, mostDigits}
 use Rattle.answers.specs.Rows.{Row, firstFailing}
-use Rattle.answers.proofs.Rows.{must, AllPass, first-le, first-not, zero-pass, pass-first, fail-first, pass-both}
+use Rattle.answers.proofs.Rows.{must, AllPass, first-lt, first-not, zero-pass, pass-first, fail-first, pass-both}
 use Rattle.hex.specs.Hex.{allDigits, unhex}
 use Rattle.morus.specs.Seal.{accepts}
-use Rattle.run.specs.Read.{Verdict, refused}
+use Rattle.run.specs.Read.{Verdict, refused, bufferRows}
 use Rattle.run.specs.Claims.{NotEnd, Blanks}
 use Rattle.run.proofs.Lines.{refused-blanks, said}
 use Rattle.journal.specs.Frame.{nIn, mIn, nonceIn, adIn, cipherIn, tagIn}
-use Rattle.journal.specs.Reader.{bufferRows, textRows, frameRows, tagRows, lineRows, opened, given, readFrame, readText, readAt}
+use Rattle.journal.specs.Reader.{textRows, frameRows, tagRows, lineRows, opened, given, readFrame, readText, readAt}
 
 -- ---- what the rows say where they pass
 
@@ -170,7 +170,7 @@ given-small key f size (suc k) h g = refused-small (suc k) size h
 text-small : (key text : List ℕ) (size : ℕ) → Small (readText key text size)
 unfolding readText lineRows bufferRows textRows frameRows tagRows
 text-small key text size =
-    given-small key (unhex text) size (firstFailing (lineRows key text size)) (omega (arith, first-le 99 (lineRows key text size) tt)) (λ z. line-pass key text size z .frame)
+    given-small key (unhex text) size (firstFailing (lineRows key text size)) (first-lt numbersBelow (lineRows key text size) (omega arith) tt) (λ z. line-pass key text size z .frame)
 
 pub read-small : (key j : List ℕ) (place size : ℕ) → Small (readAt key j place size .verdict)
 read-small key j place size = said (readText key) j place size Small (λ k l. refused-small k size l) (λ t. text-small key t size)

@@ -4,7 +4,7 @@ use mathlib.Core.Path.{_≡_}
 use mathlib.Core.List.{List, [], _∷_, _++_}
 use lib.ListN.{length}
 use Rattle.answers.specs.Sizes.{nonceSize, fixed, mostData, mostMessage}
-use Rattle.morus.specs.Bytes.{Bytes}
+use Rattle.buffers.specs.Bytes.{Bytes}
 use Rattle.morus.specs.Seal.{seal, sealTag}
 use Rattle.hex.specs.Hex.{hexOf}
 use Rattle.run.specs.Line.{newline}

@@ -3,13 +3,13 @@ use Prim.Native.Nat.{ℕ, zero, suc, _+_, _-_, _%_}
 use mathlib.Core.List.{List, [], _∷_, _++_}
 use lib.ListN.{length, replicate}
 use lib.Dec.{leb, eqb}
-use Rattle.answers.specs.Numbers.{done, tagDiffers, lineTooLong, notDigit, odd, frameTooShort, dataTooLong, dataPastFrame, messageTooLong, bufferTooSmall}
-use Rattle.answers.specs.Sizes.{fill, fixed, mostData, mostMessage, mostFrame, mostDigits}
+use Rattle.answers.specs.Numbers.{done, tagDiffers, lineTooLong, notDigit, odd, frameTooShort, dataTooLong, dataPastFrame, messageTooLong}
+use Rattle.answers.specs.Sizes.{fill, fixed, mostData, mostMessage, mostDigits}
 use Rattle.answers.specs.Rows.{Row, _else_, firstFailing}
 use Rattle.morus.specs.Seal.{unseal, accepts}
 use Rattle.hex.specs.Hex.{allDigits, unhex}
 use Rattle.run.specs.Read as Read
-use Rattle.run.specs.Read.{Verdict, Reader, Reading, refused}
+use Rattle.run.specs.Read.{Verdict, Reader, Reading, refused, bufferRows}
 use Rattle.run.specs.Run as Run
 use Rattle.run.specs.Run.{Entry}
 use Rattle.journal.specs.Frame.{frameWith, nIn, mIn, nonceIn, adIn, cipherIn, tagIn}
@@ -20,12 +20,12 @@ opened n m size front = record { number = done; n = n; m = m; buffer = front ++ 
 
 -- ---- the text of one line
 
-unfoldable pub bufferRows : (size : ℕ) → List Row
-bufferRows size = (leb mostFrame size else bufferTooSmall) ∷ []
-
 unfoldable pub textRows : (text : List ℕ) → List Row
 textRows text =
-    (leb (length text) mostDigits else lineTooLong) ∷ (allDigits text else notDigit) ∷ (eqb (length text % 2) 0 else odd) ∷ []
+    (leb (length text) mostDigits else lineTooLong)
+    ∷ (allDigits text else notDigit)
+    ∷ (eqb (length text % 2) 0 else odd)
+    ∷ []
 
 unfoldable pub frameRows : (f : List ℕ) → List Row
 frameRows f =

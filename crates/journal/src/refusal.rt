@@ -1,4 +1,4 @@
-// Where every refusal of a line's text ends.
+// Where every refusal of the reader ends.
 use crate::Verdict;
 use answers::sizes;
 use buffers::fill;

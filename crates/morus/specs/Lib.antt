@@ -1,4 +1,3 @@
-pub mod Bytes
 pub mod Blocks
 pub mod Seal
 pub mod Morus

@@ -4,9 +4,10 @@ use state::State;
 use state::block::block;
 use state::lane::Lane;
 ghost use mathlib.Core.Path.{_≡_};
-ghost use Prim.Native.Nat.{_-_, _<_, _^_, min};
+ghost use Prim.Native.Nat.{_-_, _<_, min};
 ghost use lib.ListN.{length};
 ghost use lib.Seq.{paste};
+ghost use Rattle.answers.specs.Sizes.{limit};
 ghost use Rattle.state.specs.Tag.{tag};
 ghost use Rattle.morus.specs.Blocks.{covered, absorbed, uncovered, reabsorbed};
 ghost use Rattle.morus.specs.Seal.{lengths};
@@ -82,7 +83,7 @@ pub(crate) fn uncover(s: State, mc: &mut [u8]) -> State
 
 // The tag, where the data has `adlen` bytes and the message `mlen`: the length lane counts bits.
 pub(crate) fn tag_of(s: State, adlen: usize, mlen: usize) -> [u8; 16]
-    requires { ⌜ (adlen < 2 ^ 61) × (mlen < 2 ^ 61) ⌝ }
+    requires { ⌜ (adlen < limit) × (mlen < limit) ⌝ }
     ensures { λ r. ⌜ r ≡ tag s (lengths adlen mlen) ⌝ }
 {
     let lens = Lane::from_words(8 * (adlen as u64), 8 * (mlen as u64), 0, 0);

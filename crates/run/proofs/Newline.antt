@@ -17,14 +17,14 @@ Plain s = newlineAt s ≡ length s
 
 pub newlineAt-le : (s : List ℕ) → newlineAt s ≤ length s
 newlineAt-le [] = omega arith
-newlineAt-le (x ∷ xs) = go (eqb x 10) (newlineAt-le xs)
+newlineAt-le (x ∷ xs) = go (eqb x newline) (newlineAt-le xs)
   where
     go : (b : Bool) → newlineAt xs ≤ length xs → cond b 0 (suc (newlineAt xs)) ≤ suc (length xs)
     go true h = omega arith
     go false h = omega arith
 
-pub plain-cons : (x : ℕ) (xs : List ℕ) → Plain (x ∷ xs) → (eqb x 10 ≡ false) × Plain xs
-plain-cons x xs = go (eqb x 10)
+pub plain-cons : (x : ℕ) (xs : List ℕ) → Plain (x ∷ xs) → (eqb x newline ≡ false) × Plain xs
+plain-cons x xs = go (eqb x newline)
   where
     go : (b : Bool) → cond b 0 (suc (newlineAt xs)) ≡ suc (length xs) → (b ≡ false) × (newlineAt xs ≡ length xs)
     go true h = absurd (omega arith)
@@ -35,20 +35,20 @@ pub newlineAt-plain : (s t : List ℕ) → Plain s → newlineAt (s ++ newline �
 newlineAt-plain [] t h = refl
 newlineAt-plain (x ∷ xs) t h = rw (plain-cons x xs h .0) (ap suc (newlineAt-plain xs t (plain-cons x xs h .1)))
 
-pub getD-newlineAt : (s : List ℕ) → newlineAt s < length s → getD s (newlineAt s) 0 ≡ 10
+pub getD-newlineAt : (s : List ℕ) → newlineAt s < length s → getD s (newlineAt s) 0 ≡ newline
 getD-newlineAt [] h = absurd (omega arith)
-getD-newlineAt (x ∷ xs) h = go (eqb x 10) refl (getD-newlineAt xs) h
+getD-newlineAt (x ∷ xs) h = go (eqb x newline) refl (getD-newlineAt xs) h
   where
-    go : (b : Bool) → eqb x 10 ≡ b → (newlineAt xs < length xs → getD xs (newlineAt xs) 0 ≡ 10) → cond b 0 (suc (newlineAt xs)) < suc (length xs)
-        → getD (x ∷ xs) (cond b 0 (suc (newlineAt xs))) 0 ≡ 10
-    go true e ih h = eqb-true x 10 e
+    go : (b : Bool) → eqb x newline ≡ b → (newlineAt xs < length xs → getD xs (newlineAt xs) 0 ≡ newline) → cond b 0 (suc (newlineAt xs)) < suc (length xs)
+        → getD (x ∷ xs) (cond b 0 (suc (newlineAt xs))) 0 ≡ newline
+    go true e ih h = eqb-true x newline e
     go false e ih h = ih (omega arith)
 
 pub textOf-plain : (s : List ℕ) → Plain (textOf s)
 textOf-plain [] = refl
-textOf-plain (x ∷ xs) = go (eqb x 10) refl (textOf-plain xs)
+textOf-plain (x ∷ xs) = go (eqb x newline) refl (textOf-plain xs)
   where
-    go : (b : Bool) → eqb x 10 ≡ b → Plain (textOf xs) → Plain (take (cond b 0 (suc (newlineAt xs))) (x ∷ xs))
+    go : (b : Bool) → eqb x newline ≡ b → Plain (textOf xs) → Plain (take (cond b 0 (suc (newlineAt xs))) (x ∷ xs))
     go true e ih = refl
     go false e ih = rw e (ap suc ih)
 
@@ -58,9 +58,9 @@ cut s h = split-at s (newlineAt s) 0 h ∙ ap (λ (b : ℕ). textOf s ++ b ∷ d
 
 pub newlineAt-line : (s : List ℕ) → newlineAt (take (suc (newlineAt s)) s) ≡ newlineAt s
 newlineAt-line [] = refl
-newlineAt-line (x ∷ xs) = go (eqb x 10) refl (newlineAt-line xs)
+newlineAt-line (x ∷ xs) = go (eqb x newline) refl (newlineAt-line xs)
   where
-    go : (b : Bool) → eqb x 10 ≡ b → newlineAt (take (suc (newlineAt xs)) xs) ≡ newlineAt xs
+    go : (b : Bool) → eqb x newline ≡ b → newlineAt (take (suc (newlineAt xs)) xs) ≡ newlineAt xs
         → newlineAt (take (suc (cond b 0 (suc (newlineAt xs)))) (x ∷ xs)) ≡ cond b 0 (suc (newlineAt xs))
     go true e ih = rw e
     go false e ih = rw e (ap suc ih)

@@ -11,7 +11,7 @@ use Rattle.answers.specs.Numbers.{noNewline, placeBeyond, bufferTooSmall, end}
 use Rattle.answers.specs.Sizes.{mostFrame}
 use Rattle.answers.specs.Rows.{firstFailing}
 use Rattle.run.specs.Line.{newlineAt}
-use Rattle.run.specs.Read.{Reader, Reading, reading, refused, placeRows, readLine, readBy, readAt}
+use Rattle.run.specs.Read.{Reader, Reading, reading, refused, bufferRows, placeRows, readLine, readBy, readAt}
 use Rattle.run.proofs.Newline.{ended}
 
 module _ (read : Reader) (j : List ℕ) (place size : ℕ) where
@@ -23,7 +23,7 @@ module _ (read : Reader) (j : List ℕ) (place size : ℕ) where
       → (mostFrame ≤ size → place < length j → length (drop place j) ≤ newlineAt (drop place j) → P (reading (refused noNewline size) (length j)))
       → (mostFrame ≤ size → place < length j → newlineAt (drop place j) < length (drop place j) → P (readLine read j place size))
       → P (readAt read j place size)
-  unfolding readAt readBy placeRows firstFailing
+  unfolding readAt readBy placeRows bufferRows firstFailing
   rows P p13 p12 p14 p11 line =
       go (leb mostFrame size) (leb place (length j)) (eqb place (length j)) (ltb (newlineAt (drop place j)) (length (drop place j))) refl refl refl refl
     where
@@ -46,37 +46,37 @@ module _ (read : Reader) (j : List ℕ) (place size : ℕ) where
   -- ---- each row
 
   pub too-small : size < mostFrame → readAt read j place size ≡ reading (refused bufferTooSmall size) place
-  unfolding readAt readBy placeRows firstFailing
+  unfolding readAt readBy placeRows bufferRows firstFailing
   too-small h = rw (lt-leb mostFrame size h)
 
   module _ (big : mostFrame ≤ size) where
     pub beyond : length j < place → readAt read j place size ≡ reading (refused placeBeyond size) place
-    unfolding readAt readBy placeRows firstFailing
+    unfolding readAt readBy placeRows bufferRows firstFailing
     beyond h = rw (le-leb mostFrame size big, lt-leb place (length j) h)
 
     pub at-end : place ≡ length j → readAt read j place size ≡ reading (refused end size) place
-    unfolding readAt readBy placeRows firstFailing
+    unfolding readAt readBy placeRows bufferRows firstFailing
     at-end e = rw (le-leb mostFrame size big, le-leb place (length j) (omega arith), eq-eqb place (length j) e)
 
     pub unended : place < length j → length (drop place j) ≤ newlineAt (drop place j) → readAt read j place size ≡ reading (refused noNewline size) (length j)
-    unfolding readAt readBy placeRows firstFailing
+    unfolding readAt readBy placeRows bufferRows firstFailing
     unended h e =
         rw (le-leb mostFrame size big, le-leb place (length j) (omega arith), ne-eqb place (length j) (omega arith), le-ltb (newlineAt (drop place j)) (length (drop place j)) e)
 
     pub found : place < length j → newlineAt (drop place j) < length (drop place j)
         → readAt read j place size ≡ readLine read j place size
-    unfolding readAt readBy placeRows firstFailing
+    unfolding readAt readBy placeRows bufferRows firstFailing
     found h e =
         rw (le-leb mostFrame size big, le-leb place (length j) (omega arith), ne-eqb place (length j) (omega arith), lt-ltb (newlineAt (drop place j)) (length (drop place j)) e)
 
     -- ---- the last two, by where the search for the newline ended
 
-    module _ (h : place < length j) (end : ℕ) (is : end ≡ place + newlineAt (drop place j)) where
-      pub unended-at : end ≡ length j → readAt read j place size ≡ reading (refused noNewline size) end
+    module _ (h : place < length j) (stop : ℕ) (is : stop ≡ place + newlineAt (drop place j)) where
+      pub unended-at : stop ≡ length j → readAt read j place size ≡ reading (refused noNewline size) stop
       unended-at e = rw e (unended h (omega (arith, length-drop place j)))
 
-      pub found-at : (end ≡ length j → ⊥) → readAt read j place size ≡ reading (read (take (end - place) (drop place j)) size) (end + 1)
+      pub found-at : (stop ≡ length j → ⊥) → readAt read j place size ≡ reading (read (take (stop - place) (drop place j)) size) (stop + 1)
       unfolding readLine
       found-at e =
-          let n : end - place ≡ newlineAt (drop place j) = omega arith in
-          rw (n, is) (found h (omega (arith, ended j place end is (omega arith), length-drop place j)))
+          let n : stop - place ≡ newlineAt (drop place j) = omega arith in
+          rw (n, is) (found h (omega (arith, ended j place stop is (omega arith), length-drop place j)))

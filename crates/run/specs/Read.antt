@@ -1,7 +1,7 @@
 -- Reading at a place of a journal, with a frame buffer of `size` bytes. What reads a line's text is a parameter.
 use Prim.Native.Nat.{ℕ, zero, suc, _+_}
 use mathlib.Core.Bool.{cond, not}
-use mathlib.Core.List.{List, [], _∷_}
+use mathlib.Core.List.{List, [], _∷_, _++_}
 use lib.ListN.{length, drop, replicate}
 use lib.Dec.{leb, ltb, eqb}
 use Rattle.answers.specs.Numbers.{noNewline, placeBeyond, bufferTooSmall, end}
@@ -31,11 +31,15 @@ pub record Reading : Type 0 where
 abbrev pub reading : Verdict → ℕ → Reading
 reading v next = record { verdict = v; next = next }
 
+-- the frame buffer's row, which a reader of a text has too
+unfoldable pub bufferRows : (size : ℕ) → List Row
+bufferRows size = (leb mostFrame size else bufferTooSmall) ∷ []
+
 -- the rows before the line's own, in their order
 unfoldable pub placeRows : (journal : List ℕ) → (place size : ℕ) → List Row
 placeRows j place size =
-    (leb mostFrame size else bufferTooSmall)
-    ∷ (leb place (length j) else placeBeyond)
+    bufferRows size
+    ++ (leb place (length j) else placeBeyond)
     ∷ (not (eqb place (length j)) else end)
     ∷ (ltb (newlineAt (drop place j)) (length (drop place j)) else noNewline)
     ∷ []

@@ -4,7 +4,7 @@ use mathlib.Core.Path.{_≡_, _∙_}
 use native.Mathlib.Omega.{arith}
 use lib.ListN.{length, length-set}
 use borrow.Rule.Slice.PartMut.{putMid, same-len-mid}
-use Rattle.answers.specs.Sizes.{dataAt}
+use Rattle.answers.specs.Sizes.{dataAt, nonceSize}
 use Rattle.journal.proofs.SealFrame.{seal-steps}
 use borrow.Author.Needs.{needs}
 use Rattle.journal.proofs.frame.seal_frame.Statement.{statement}
@@ -51,7 +51,7 @@ returns c =
     let m : tie.After-copy3 = e .before .before .before .before .before in
     let d : tie.After-copy2 = m .before .before .before .before in
     let s : tie.Start = start₄ e in
-    let len : length (s .args .t2) ≡ 16 = search needs in
+    let len : length (s .args .t2) ≡ nonceSize = search needs in
     seal-steps _ _ _ _ _ len (s .pre .0) (s .pre .1) (s .pre .2) (d .before .before .before .before .copy .ensures) (d .copy2 .ensures) (m .copy3 .ensures)
     (e .before .before .new .ensures) (e .encrypt-in-place .ensures) (t .copy4 .ensures)
 

@@ -8,7 +8,7 @@ use Rattle.hex.specs.Promise.{number}
 use Rattle.answers.specs.Rows.{firstFailing}
 use Rattle.journal.specs.Reader.{textRows}
 use Rattle.journal.proofs.Rows.{no-room, too-long, text-fails, text-passes}
-use Rattle.journal.proofs.Digits.{text-le, text-number, Digits, read-digits}
+use Rattle.journal.proofs.Digits.{not-no-room, text-number, Digits, read-digits}
 use borrow.Author.Needs.{needs}
 use Rattle.journal.proofs.text.read_text.Statement.{statement}
 use Rattle.journal.proofs.text.read_text.Tie as tie
@@ -76,7 +76,7 @@ returns-6 c =
     let t : tie.After-enum-told3 = c .before .before .before .before in
     let r : tie.After-read = t .before .before .before .before in
     let e = sym (ap number (t .enum-told3 .given .1)) ∙ number-is r in
-    absurd (omega (arith, text-le (start r .args .text .now)))
+    absurd (not-no-room (start r .args .text .now) (sym e))
 
 pub read-text-spec : {M : Type 1} → statement M
 read-text-spec =
