@@ -36,7 +36,8 @@ unfolding firstFailing
 first-is p [] h n = absurd (n refl)
 first-is p (r ∷ rs) h n = go (r .test) (first-is p rs (both (p (r .number)) (numbers p rs) h .1)) n
   where
-    go : (b : Bool) → ((firstFailing rs ≡ 0 → ⊥) → T (p (firstFailing rs))) → (cond b (firstFailing rs) (r .number) ≡ 0 → ⊥) → T (p (cond b (firstFailing rs) (r .number)))
+    go : (b : Bool) → ((firstFailing rs ≡ 0 → ⊥) → T (p (firstFailing rs)))
+        → (cond b (firstFailing rs) (r .number) ≡ 0 → ⊥) → T (p (cond b (firstFailing rs) (r .number)))
     go true ih n = ih n
     go false ih n = both (p (r .number)) (numbers p rs) h .0
 
@@ -62,7 +63,8 @@ zero-pass (r ∷ rs) h e = go (r .test) (zero-pass rs (b .1)) e
     b : T (ltb 0 (r .number)) × T (numbers (ltb 0) rs)
     b = both (ltb 0 (r .number)) (numbers (ltb 0) rs) h
 
-    go : (c : Bool) → (firstFailing rs ≡ 0 → AllPass rs) → cond c (firstFailing rs) (r .number) ≡ 0 → (c ≡ true) × AllPass rs
+    go : (c : Bool) → (firstFailing rs ≡ 0 → AllPass rs) → cond c (firstFailing rs) (r .number) ≡ 0
+        → (c ≡ true) × AllPass rs
     go true ih e = (refl, ih e)
     go false ih e = absurd (omega (arith, ltb→lt 0 (r .number) (b .0)))
 
@@ -82,7 +84,8 @@ unfolding firstFailing
 fail-first [] b h = absurd (h refl)
 fail-first (r ∷ rs) b h = go (r .test) (fail-first rs b) h
   where
-    go : (c : Bool) → ((firstFailing rs ≡ 0 → ⊥) → firstFailing (rs ++ b) ≡ firstFailing rs) → (cond c (firstFailing rs) (r .number) ≡ 0 → ⊥)
+    go : (c : Bool) → ((firstFailing rs ≡ 0 → ⊥) → firstFailing (rs ++ b) ≡ firstFailing rs)
+        → (cond c (firstFailing rs) (r .number) ≡ 0 → ⊥)
         → cond c (firstFailing (rs ++ b)) (r .number) ≡ cond c (firstFailing rs) (r .number)
     go true ih h = ih h
     go false ih h = refl

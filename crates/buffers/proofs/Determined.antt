@@ -11,7 +11,8 @@ module _ (b : List ℕ) (at : ℕ) where
   pub copy : (s : List ℕ) {o₁ o₂ : List ℕ} → o₁ ≡ allOver b at s → o₂ ≡ allOver b at s → o₁ ≡ o₂
   copy s p q = p ∙ sym q
 
-  pub copy-part : (s : List ℕ) (from n : ℕ) {o₁ o₂ : List ℕ} → o₁ ≡ partOver b at s from n → o₂ ≡ partOver b at s from n → o₁ ≡ o₂
+  pub copy-part : (s : List ℕ) (from n : ℕ) {o₁ o₂ : List ℕ} → o₁ ≡ partOver b at s from n → o₂ ≡ partOver b at s from n
+      → o₁ ≡ o₂
   copy-part s from n p q = p ∙ sym q
 
   pub sixteen : {r₁ r₂ : List ℕ} → r₁ ≡ padded 16 (drop at b) → r₂ ≡ padded 16 (drop at b) → r₁ ≡ r₂

@@ -47,9 +47,11 @@ module _ (nonce key d c t out : List ℕ) where
   unfolding intoRows lengthRows tagRows firstFailing
   open-answer =
       rw (accepted-by nonce key d c t)
-      (go (ltb (length d) (2 ^ 61)) (ltb (length c) (2 ^ 61)) (eqb (length out) (length c)) (accepts key nonce d c t) refl refl refl refl)
+      (go (ltb (length d) (2 ^ 61)) (ltb (length c) (2 ^ 61)) (eqb (length out) (length c))
+      (accepts key nonce d c t) refl refl refl refl)
     where
-      go : (a b f g : Bool) → ltb (length d) (2 ^ 61) ≡ a → ltb (length c) (2 ^ 61) ≡ b → eqb (length out) (length c) ≡ f → accepts key nonce d c t ≡ g
+      go : (a b f g : Bool) → ltb (length d) (2 ^ 61) ≡ a → ltb (length c) (2 ^ 61) ≡ b
+          → eqb (length out) (length c) ≡ f → accepts key nonce d c t ≡ g
           → OpenAnswer key nonce d c t out (cond a (cond b (cond f (cond g 0 1) 3) 2) 2)
       go false b f g ea eb ef eg = OpenAnswer.too-long (inl (ltb-false _ _ ea))
       go true false f g ea eb ef eg = OpenAnswer.too-long (inr (ltb-false _ _ eb))
@@ -79,8 +81,11 @@ module _ (d m : ℕ) where
 pub demand1 : Demand1
 demand1 =
     record {
-      encrypt-in-place = λ nonce key d m s. seal-outcome d m m _ (seal-answer d m m) (rw (as-long (length d) (length m)) at s);
-      decrypt-in-place = λ nonce key d c t s. open-outcome nonce key d c t c _ (open-answer nonce key d c t c) (rw (as-long-then (length d) (length c) (tagRows (begun nonce key) d c t)) at s);
+      encrypt-in-place =
+          λ nonce key d m s. seal-outcome d m m _ (seal-answer d m m) (rw (as-long (length d) (length m)) at s);
+      decrypt-in-place =
+          λ nonce key d c t s. open-outcome nonce key d c t c _ (open-answer nonce key d c t c)
+          (rw (as-long-then (length d) (length c) (tagRows (begun nonce key) d c t)) at s);
       encrypt = λ nonce key d m out s. seal-outcome d m out _ (seal-answer d m out) s;
       decrypt = λ nonce key d c t out s. open-outcome nonce key d c t out _ (open-answer nonce key d c t out) s;
     }

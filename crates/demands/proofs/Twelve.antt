@@ -10,7 +10,8 @@ use Rattle.journal.proofs.Sizes.{line-size}
 use Rattle.demands.specs.Twelve.{Twelve}
 
 pub twelve : Twelve
-unfolding turn laneOf _⊕_ _&_ turned moved step1 step2 step3 step4 step5 firstSteps lastSteps update keyStream firstFailing frameRows
+unfolding turn laneOf _⊕_ _&_ turned moved step1 step2 step3 step4 step5 firstSteps lastSteps update keyStream
+    firstFailing frameRows
 twelve =
     record {
       case1 = refl;

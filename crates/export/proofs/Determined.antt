@@ -29,7 +29,8 @@ module _ (key nonce ad : List ℕ) where
       let e = p .report ∙ sym (q .report) in
       (ap (λ (l : Line). l .number) e, p .buffer ∙ sym (q .buffer), ap (λ (l : Line). l .length) e)
 
-pub votrikany-read-line : (journal : List ℕ) (place : ℕ) (key frame : List ℕ) {r₁ r₂ : ℕ} {x₁ x₂ : List ℕ} {p₁ p₂ n₁ n₂ m₁ m₂ : ℕ}
+pub votrikany-read-line : (journal : List ℕ) (place : ℕ) (key frame : List ℕ) {r₁ r₂ : ℕ} {x₁ x₂ : List ℕ}
+    {p₁ p₂ n₁ n₂ m₁ m₂ : ℕ}
     → Read journal place key frame r₁ x₁ p₁ n₁ m₁ → Read journal place key frame r₂ x₂ p₂ n₂ m₂
     → (r₁ ≡ r₂) × (x₁ ≡ x₂) × (p₁ ≡ p₂) × (n₁ ≡ n₂) × (m₁ ≡ m₂)
 votrikany-read-line journal place key frame p q =

@@ -28,17 +28,23 @@ pub record Digits (text bytes' : List ℕ) (count : ℕ) : Type 0 where
   pub small : count ≤ mostFrame
   pub front : take count bytes' ≡ unhex text
 
-module _ {text bytes bytes' : List ℕ} {r : Read} (h : ReadOf text bytes r bytes') (short : length text ≤ mostDigits) (room : mostFrame ≤ length bytes) where
+module _ {text bytes bytes' : List ℕ} {r : Read} (h : ReadOf text bytes r bytes') (short : length text ≤ mostDigits)
+    (room : mostFrame ≤ length bytes) where
   pub text-number : number r ≡ firstFailing (textRows text)
   unfolding textRows firstFailing
-  text-number = h .numbered ∙ rw (le-leb (length text) mostDigits short, le-leb (length text / 2) (length bytes) (omega arith))
+  text-number =
+      h .numbered ∙ rw (le-leb (length text) mostDigits short, le-leb (length text / 2) (length bytes) (omega arith))
 
   pub read-digits : (count : ℕ) → r ≡ Answer.Bytes count → Digits text bytes' count
   read-digits count e =
       let g : GoodText text = text-pass text (sym text-number ∙ ap number e) in
       let D = decoded text (g .digits) (g .even) in
       let k : Answer.Bytes count ≡ Answer.Bytes (length text / 2) =
-      sym e ∙ h .answer ∙ rw (g .digits, eq-eqb (length text % 2) 0 (g .even), le-leb (length text / 2) (length bytes) (omega arith)) in
+      sym e ∙ h .answer ∙ rw (
+        g .digits,
+        eq-eqb (length text % 2) 0 (g .even),
+        le-leb (length text / 2) (length bytes) (omega arith),
+      ) in
       let c : count ≡ length text / 2 = ap stored k in
       let l : length (unhex text) ≡ count = omega (arith, D .len) in
       let s : stored (readOf text (length bytes)) ≡ count = ap stored (sym (h .answer) ∙ e) in

@@ -20,13 +20,15 @@ pub record Parts (f nonce ad body tag : List ℕ) : Type 0 where
   pub bodyIs : cipherIn f ≡ body
   pub tagIs : tagIn f ≡ tag
 
-pub parts : (nonce ad body tag : List ℕ) → length nonce ≡ nonceSize → length tag ≡ tagSize → Parts (frameWith nonce ad body tag) nonce ad body tag
+pub parts : (nonce ad body tag : List ℕ) → length nonce ≡ nonceSize → length tag ≡ tagSize
+    → Parts (frameWith nonce ad body tag) nonce ad body tag
 parts nonce ad body tag hn ht =
     let f = frameWith nonce ad body tag in
     let n : nIn f ≡ length ad = getD-at nonce (length ad) (ad ++ (body ++ tag)) 0 nonceSize hn in
     let m : mIn f ≡ length body = rw n (omega (arith, frame-length nonce ad body tag)) in
     let d : drop dataAt f ≡ ad ++ (body ++ tag) =
-    rw append-snoc at (drop-at (nonce ++ (length ad ∷ [])) (ad ++ (body ++ tag)) dataAt (omega (arith, length-append nonce (length ad ∷ [])))) in
+    rw append-snoc at (drop-at (nonce ++ (length ad ∷ [])) (ad ++ (body ++ tag)) dataAt
+    (omega (arith, length-append nonce (length ad ∷ [])))) in
     let d2 : drop (nIn f) (drop dataAt f) ≡ body ++ tag = rw (n, d) (drop-at ad (body ++ tag) (length ad) refl) in
     record {
       nIs = n;
@@ -63,22 +65,28 @@ sound f h =
 
 pub record AtFront (nonce ad body tag rest : List ℕ) : Type 0 where
   pub data-at : drop dataAt (frameWith nonce ad body tag ++ rest) ≡ ad ++ (body ++ (tag ++ rest))
-  pub before-body : (i : ℕ) → i ≡ dataAt + length ad → take i (frameWith nonce ad body tag ++ rest) ≡ nonce ++ (length ad ∷ ad)
+  pub before-body : (i : ℕ) → i ≡ dataAt + length ad
+      → take i (frameWith nonce ad body tag ++ rest) ≡ nonce ++ (length ad ∷ ad)
   pub body-at : (i : ℕ) → i ≡ dataAt + length ad → drop i (frameWith nonce ad body tag ++ rest) ≡ body ++ (tag ++ rest)
-  pub tag-at : (i : ℕ) → i ≡ dataAt + length ad + length body → take tagSize (drop i (frameWith nonce ad body tag ++ rest)) ≡ tag
+  pub tag-at : (i : ℕ) → i ≡ dataAt + length ad + length body
+      → take tagSize (drop i (frameWith nonce ad body tag ++ rest)) ≡ tag
 
-pub at-front : (nonce ad body tag rest : List ℕ) → length nonce ≡ nonceSize → length tag ≡ tagSize → AtFront nonce ad body tag rest
+pub at-front : (nonce ad body tag rest : List ℕ) → length nonce ≡ nonceSize → length tag ≡ tagSize
+    → AtFront nonce ad body tag rest
 at-front nonce ad body tag rest nonce16 tag16 =
     let whole = frameWith nonce ad body tag ++ rest in
     let by-data : whole ≡ (nonce ++ (length ad ∷ [])) ++ (ad ++ (body ++ (tag ++ rest))) = simp append-assoc in
     let by-body : whole ≡ (nonce ++ (length ad ∷ ad)) ++ (body ++ (tag ++ rest)) = simp append-assoc in
     let by-tag : whole ≡ (nonce ++ (length ad ∷ (ad ++ body))) ++ (tag ++ rest) = simp append-assoc in
     record {
-      data-at = ap (drop dataAt) by-data ∙ drop-at (nonce ++ (length ad ∷ [])) (ad ++ (body ++ (tag ++ rest))) dataAt (rw length-append (omega arith));
+      data-at =
+          ap (drop dataAt) by-data
+          ∙ drop-at (nonce ++ (length ad ∷ [])) (ad ++ (body ++ (tag ++ rest))) dataAt (rw length-append (omega arith));
       before-body = λ i e. ap (take i) by-body ∙ take-at (nonce ++ (length ad ∷ ad)) (body ++ (tag ++ rest)) i (rw length-append (omega arith));
       body-at = λ i e. ap (drop i) by-body ∙ drop-at (nonce ++ (length ad ∷ ad)) (body ++ (tag ++ rest)) i (rw length-append (omega arith));
       tag-at = λ i e.
           ap (λ (x : List ℕ). take tagSize (drop i x)) by-tag
-          ∙ ap (take tagSize) (drop-at (nonce ++ (length ad ∷ (ad ++ body))) (tag ++ rest) i (rw (length-append nonce (length ad ∷ (ad ++ body)), length-append ad body) (omega arith)))
+          ∙ ap (take tagSize) (drop-at (nonce ++ (length ad ∷ (ad ++ body))) (tag ++ rest) i
+          (rw (length-append nonce (length ad ∷ (ad ++ body)), length-append ad body) (omega arith)))
           ∙ take-at tag rest tagSize tag16;
     }

@@ -30,7 +30,13 @@ handed-length key nonce ad message size F big =
     let t = sealTag key nonce ad message in
     let front = frameWith nonce ad message t in
     length-append front (replicate (size - length front) fill)
-    ∙ omega (arith, length-replicate {A = ℕ} (size - length front) fill, frame-length nonce ad message t, tag-length key nonce ad message, F)
+    ∙ omega (
+      arith,
+      length-replicate {A = ℕ} (size - length front) fill,
+      frame-length nonce ad message t,
+      tag-length key nonce ad message,
+      F,
+    )
 
 pub keeps-length : {j key frame frame' : List ℕ} {place : ℕ} {r : Answer} → LineRead j place key frame r frame' → length frame' ≡ length frame
 unfolding refused
@@ -41,7 +47,12 @@ keeps-length {j} {key} {frame} {frame'} {place} {r} h = go (r .number) refl (ltb
 
     go : (k : ℕ) → r .number ≡ k → (b : Bool) → ltb (length frame) mostFrame ≡ b → length frame' ≡ length frame
     go zero e true t =
-        absurd (omega (arith, number, ap (λ (x : Reading). x .verdict .number) (too-small (readText key) j place (length frame) (ltb-true (length frame) mostFrame t))))
+        absurd (omega (
+          arith,
+          number,
+          ap (λ (x : Reading). x .verdict .number)
+              (too-small (readText key) j place (length frame) (ltb-true (length frame) mostFrame t)),
+        ))
     go zero e false t =
         let big = ltb-false (length frame) mostFrame t in
         let M : Made key (lineAt j place) = opened-exactly key (length frame) big j place .0 (sym number ∙ e) in

@@ -64,7 +64,11 @@ module _ (key : List ℕ) where
     text-good =
         let K = coded f (S .bytes) in
         let len = S .len in
-        record { short = omega (arith, K .len, F .ad64, F .message256); digits = K .digits; even = omega (arith, K .len) }
+        record {
+          short = omega (arith, K .len, F .ad64, F .message256);
+          digits = K .digits;
+          even = omega (arith, K .len);
+        }
 
     frame-good : GoodFrame f
     frame-good =
@@ -103,10 +107,13 @@ module _ (key : List ℕ) where
         fits = record {
           nonce16 = S .nonce16;
           ad64 = omega (arith, g .frame .few, S .adLength);
-          message256 = omega (arith, g .frame .most, S .bodyLength, unseal-length key (nonceIn f) (adIn f) (cipherIn f));
+          message256 =
+              omega (arith, g .frame .most, S .bodyLength, unseal-length key (nonceIn f) (adIn f) (cipherIn f));
           nonceBytes = bytes-take nonceSize f (D .bytes);
           adBytes = bytes-take (nIn f) (drop dataAt f) (bytes-drop dataAt f (D .bytes));
-          messageBytes = unseal-bytes key (nonceIn f) (adIn f) (cipherIn f) (bytes-take (mIn f) (drop (nIn f) (drop dataAt f)) rest);
+          messageBytes =
+              unseal-bytes key (nonceIn f) (adIn f) (cipherIn f)
+              (bytes-take (mIn f) (drop (nIn f) (drop dataAt f)) rest);
         };
         is = rw (o .0, o .1, S .whole, D .back);
       }

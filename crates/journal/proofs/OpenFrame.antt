@@ -39,7 +39,9 @@ copied d s n h = take-at (take n s) (drop (0 + n) d) n (length-take-le n s h)
 
 -- the buffer with y where the ciphertext stood
 abbrev pub put : (b : List ℕ) (count : ℕ) (y : List ℕ) → List ℕ
-put b count y = take (dataAt + getD b nonceSize 0) b ++ (y ++ drop (count - tagSize - (dataAt + getD b nonceSize 0)) (drop (dataAt + getD b nonceSize 0) b))
+put b count y =
+    take (dataAt + getD b nonceSize 0) b
+    ++ (y ++ drop (count - tagSize - (dataAt + getD b nonceSize 0)) (drop (dataAt + getD b nonceSize 0) b))
 
 -- the frame f of `count` bytes at the front of b: its parts as they are copied out and lent, and the frame again with y put back
 pub record Cut (b : List ℕ) (count : ℕ) : Type 0 where
@@ -48,7 +50,8 @@ pub record Cut (b : List ℕ) (count : ℕ) : Type 0 where
   pub nonce-out : take nonceSize b ≡ nonceIn (take count b)
   pub data-out : take (getD b nonceSize 0) (drop dataAt b) ≡ adIn (take count b)
   pub data-length : length (adIn (take count b)) ≡ getD b nonceSize 0
-  pub cipher-out : take (count - tagSize - (dataAt + getD b nonceSize 0)) (drop (dataAt + getD b nonceSize 0) b) ≡ cipherIn (take count b)
+  pub cipher-out : take (count - tagSize - (dataAt + getD b nonceSize 0)) (drop (dataAt + getD b nonceSize 0) b)
+      ≡ cipherIn (take count b)
   pub cipher-length : length (cipherIn (take count b)) ≡ count - tagSize - (dataAt + getD b nonceSize 0)
   pub tag-out : take tagSize (drop (count - tagSize) b) ≡ tagIn (take count b)
   pub put-back : (y : List ℕ) → put b count y ≡ frameWith (nonceIn (take count b)) (adIn (take count b)) y (tagIn (take count b)) ++ drop count b
@@ -69,19 +72,25 @@ cut b count least most =
     let F = at-front (nonceIn f) (adIn f) (cipherIn f) (tagIn f) rest (S .nonce16) (S .tag16) in
     let whole : b ≡ frameWith (nonceIn f) (adIn f) (cipherIn f) (tagIn f) ++ rest =
     sym (take-append-drop count b) ∙ ap (λ (x : List ℕ). x ++ rest) (sym (S .whole)) in
-    let rest-out : drop (dataAt + n) b ≡ cipherIn f ++ (tagIn f ++ rest) = ap (drop (dataAt + n)) whole ∙ F .body-at (dataAt + n) (omega arith) in
-    let front-out : take (dataAt + n) b ≡ nonceIn f ++ (length (adIn f) ∷ adIn f) = ap (take (dataAt + n)) whole ∙ F .before-body (dataAt + n) (omega arith) in
+    let rest-out : drop (dataAt + n) b ≡ cipherIn f ++ (tagIn f ++ rest) =
+    ap (drop (dataAt + n)) whole ∙ F .body-at (dataAt + n) (omega arith) in
+    let front-out : take (dataAt + n) b ≡ nonceIn f ++ (length (adIn f) ∷ adIn f) =
+    ap (take (dataAt + n)) whole ∙ F .before-body (dataAt + n) (omega arith) in
     let tail-out : drop (count - tagSize - (dataAt + n)) (drop (dataAt + n) b) ≡ tagIn f ++ rest =
     rw rest-out (drop-at (cipherIn f) (tagIn f ++ rest) (count - tagSize - (dataAt + n)) cipher-length) in
     record {
       n-is = n-is;
       m-is = m-is;
       nonce-out = sym (take-take nonceSize count b (omega arith));
-      data-out = ap (λ (x : List ℕ). take n (drop dataAt x)) whole ∙ ap (take n) (F .data-at) ∙ take-at (adIn f) (cipherIn f ++ (tagIn f ++ rest)) n data-length;
+      data-out =
+          ap (λ (x : List ℕ). take n (drop dataAt x)) whole ∙ ap (take n) (F .data-at)
+          ∙ take-at (adIn f) (cipherIn f ++ (tagIn f ++ rest)) n data-length;
       data-length = data-length;
       cipher-out = rw rest-out (take-at (cipherIn f) (tagIn f ++ rest) (count - tagSize - (dataAt + n)) cipher-length);
       cipher-length = cipher-length;
-      tag-out = ap (λ (x : List ℕ). take tagSize (drop (count - tagSize) x)) whole ∙ F .tag-at (count - tagSize) (omega arith);
+      tag-out =
+          ap (λ (x : List ℕ). take tagSize (drop (count - tagSize) x)) whole
+          ∙ F .tag-at (count - tagSize) (omega arith);
       put-back = λ y. ap₂ (λ (x z : List ℕ). x ++ (y ++ z)) front-out tail-out ∙ joined (nonceIn f) (adIn f) y (tagIn f) rest;
       front-length = λ y e. frame-length (nonceIn f) (adIn f) y (tagIn f) ∙ omega (arith, S .nonce16, S .tag16);
     }
@@ -90,19 +99,23 @@ cut b count least most =
 pub record Settled (b : List ℕ) (count : ℕ) (key : List ℕ) (r : ℕ) (y : List ℕ) : Type 0 where
   pub refuses : {a : Verdict} {frame' : List ℕ} → (r ≡ 0 → ⊥) → Gives (Read.refused r (length (put b count y))) a frame'
       → Gives (given key (take count b) (length b) (firstFailing (tagRows key (take count b)))) a frame'
-  pub opens : {frame' : List ℕ} → r ≡ 0 → frame' ≡ take count (put b count y) ++ replicate (length (put b count y) - count) fill
+  pub opens : {frame' : List ℕ} → r ≡ 0
+      → frame' ≡ take count (put b count y) ++ replicate (length (put b count y) - count) fill
       → Gives (given key (take count b) (length b) (firstFailing (tagRows key (take count b))))
       (record { number = done; n = getD b nonceSize 0; m = count - tagSize - (dataAt + getD b nonceSize 0) }) frame'
 
 module _ (b : List ℕ) (count : ℕ) (key : List ℕ)
-    (small : count ≤ mostFrame) (most : mostFrame ≤ length b) (least : fixed + getD b nonceSize 0 ≤ count) (few : getD b nonceSize 0 ≤ mostData)
+    (small : count ≤ mostFrame) (most : mostFrame ≤ length b) (least : fixed + getD b nonceSize 0 ≤ count)
+    (few : getD b nonceSize 0 ≤ mostData)
     {nonce tag held y : List ℕ} {r : ℕ} {w : Morus}
     (begins : w ≡ begun nonce key)
     (nonce-is : nonce ≡ padded nonceSize (drop 0 b))
     (tag-is : tag ≡ padded tagSize (drop (count - tagSize) b))
     (held-is : held ≡ partOver (replicate mostData 0) 0 b dataAt (getD b nonceSize 0))
-    (said : Decrypted w (take (getD b nonceSize 0) held) (take (count - tagSize - (dataAt + getD b nonceSize 0)) (drop (dataAt + getD b nonceSize 0) b)) tag r y)
-    (kept : length y ≡ length (take (count - tagSize - (dataAt + getD b nonceSize 0)) (drop (dataAt + getD b nonceSize 0) b))) where
+    (said : Decrypted w (take (getD b nonceSize 0) held)
+    (take (count - tagSize - (dataAt + getD b nonceSize 0)) (drop (dataAt + getD b nonceSize 0) b)) tag r y)
+    (kept : length y ≡ length (take (count - tagSize - (dataAt + getD b nonceSize 0))
+    (drop (dataAt + getD b nonceSize 0) b))) where
   abbrev f : List ℕ
   f = take count b
 
@@ -111,9 +124,12 @@ module _ (b : List ℕ) (count : ℕ) (key : List ℕ)
 
   settled : Decrypted (begun (nonceIn f) key) (adIn f) (cipherIn f) (tagIn f) r y
   settled =
-      let e : w ≡ begun (nonceIn f) key = begins ∙ ap (λ (x : List ℕ). begun x key) (nonce-is ∙ sixteen-out b 0 (omega arith) ∙ P .nonce-out) in
+      let e : w ≡ begun (nonceIn f) key =
+      begins ∙ ap (λ (x : List ℕ). begun x key) (nonce-is ∙ sixteen-out b 0 (omega arith) ∙ P .nonce-out) in
       let n = getD b nonceSize 0 in
-      let d : take n held ≡ adIn f = ap (take n) (held-is ∙ part-fits (replicate mostData 0) 0 b dataAt n (omega arith) (omega arith)) ∙ copied (replicate mostData 0) (drop dataAt b) n (omega (arith, length-drop dataAt b)) ∙ P .data-out in
+      let d : take n held ≡ adIn f =
+      ap (take n) (held-is ∙ part-fits (replicate mostData 0) 0 b dataAt n (omega arith) (omega arith))
+      ∙ copied (replicate mostData 0) (drop dataAt b) n (omega (arith, length-drop dataAt b)) ∙ P .data-out in
       same-call e d (P .cipher-out) (tag-is ∙ sixteen-out b (count - tagSize) (omega arith) ∙ P .tag-out) said
 
   few-data : length (adIn f) < limit
@@ -141,7 +157,8 @@ module _ (b : List ℕ) (count : ℕ) (key : List ℕ)
   tag-passes h = go (accepts key (nonceIn f) (adIn f) (cipherIn f) (tagIn f)) refl
     where
       go : (a : Bool) → accepts key (nonceIn f) (adIn f) (cipherIn f) (tagIn f) ≡ a
-          → given key f (length b) (cond a 0 1) ≡ Reader.opened (nIn f) (mIn f) (length b) (frameWith (nonceIn f) (adIn f) y (tagIn f))
+          → given key f (length b) (cond a 0 1)
+          ≡ Reader.opened (nIn f) (mIn f) (length b) (frameWith (nonceIn f) (adIn f) y (tagIn f))
       go true e = rw (opened (nonceIn f) key (tagIn f) settled few-data few-cipher e .1)
       go false e = absurd (omega (arith, refused (nonceIn f) key (tagIn f) settled few-data few-cipher e .0))
 

@@ -21,10 +21,12 @@ use Rattle.journal.proofs.Made.{digits-plain, is-sealed, line-opens, op
 module _ (key : List ℕ) (size : ℕ) (big : mostFrame ≤ size) (j : List ℕ) where
   module _ (p : ℕ) where
     -- what is handed out
-    pub hands-out : (M : Made key (lineAt j p)) → readAt key j p size ≡ reading (handed key (M .nonce) (M .ad) (M .message) size) (p + length (lineAt j p))
+    pub hands-out : (M : Made key (lineAt j p))
+        → readAt key j p size ≡ reading (handed key (M .nonce) (M .ad) (M .message) size) (p + length (lineAt j p))
     hands-out M =
         let f = frameOf key (M .nonce) (M .ad) (M .message) in
-        Lines.at-text (readText key) j p size big (hexOf f) (digits-plain f (is-sealed key (M .nonce) (M .ad) (M .message) (M .fits) .bytes)) (M .is)
+        Lines.at-text (readText key) j p size big (hexOf f)
+        (digits-plain f (is-sealed key (M .nonce) (M .ad) (M .message) (M .fits) .bytes)) (M .is)
         ∙ rw (line-opens key (M .nonce) (M .ad) (M .message) (M .fits) size big)
 
     opened-found : readAt key j p size .verdict .number ≡ 0 → Made key (lineAt j p)

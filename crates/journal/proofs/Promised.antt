@@ -15,7 +15,8 @@ use Rattle.journal.proofs.Rows.{not-end}
 
 -- a verdict with a place is the promise, where the reading is that
 pub promised : {j key frame frame' : List ℕ} {place next : ℕ} {x : Verdict} {v : declared.Verdict} {r : Answer}
-    → Gives x v frame' → r ≡ placed v next → readAt key j place (length frame) ≡ reading x next → LineRead j place key frame r frame'
+    → Gives x v frame' → r ≡ placed v next → readAt key j place (length frame) ≡ reading x next
+    → LineRead j place key frame r frame'
 promised {next = next} g a e = record {
   answer = a ∙ ap (λ (v : declared.Verdict). placed v next) (g .said) ∙ ap (λ (y : Reading). answerOf y) (sym e);
   buffer = g .buffer ∙ ap (λ (y : Reading). y .verdict .buffer) (sym e);
@@ -23,5 +24,7 @@ promised {next = next} g a e = record {
 
 -- a call that starts inside the journal moves forward
 pub forward : {j key frame frame' : List ℕ} {place : ℕ} {r : Answer}
-    → LineRead j place key frame r frame' → mostFrame ≤ length frame → place < length j → Moves j place (r .number) (r .next)
-forward {j} {key} {frame} {frame'} {place} h big l = rw (h .answer) (moves (readText key) (not-end key) (length frame) big j place l)
+    → LineRead j place key frame r frame' → mostFrame ≤ length frame → place < length j
+    → Moves j place (r .number) (r .next)
+forward {j} {key} {frame} {frame'} {place} h big l =
+    rw (h .answer) (moves (readText key) (not-end key) (length frame) big j place l)

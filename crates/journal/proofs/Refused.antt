@@ -21,8 +21,14 @@ pub not-opened : {journal key frame frame' : List ℕ} {place : ℕ} {r : Answer
     → (r .number ≡ 0 → ⊥)
     → Blank (length frame) (r .n) (r .m) frame'
 not-opened {journal} {key} {frame} {frame'} {place} {r} h e =
-    let b = blanks (readText key) journal place (length frame) (λ t. text-blanks key t (length frame)) .blank (λ z. e (ap (λ (a : Answer). a .number) (h .answer) ∙ z)) in
-    record { fill = h .buffer ∙ b .fill; no-data = ap (λ (a : Answer). a .n) (h .answer) ∙ b .no-data; no-message = ap (λ (a : Answer). a .m) (h .answer) ∙ b .no-message }
+    let b =
+    blanks (readText key) journal place (length frame) (λ t. text-blanks key t (length frame)) .blank
+    (λ z. e (ap (λ (a : Answer). a .number) (h .answer) ∙ z)) in
+    record {
+      fill = h .buffer ∙ b .fill;
+      no-data = ap (λ (a : Answer). a .n) (h .answer) ∙ b .no-data;
+      no-message = ap (λ (a : Answer). a .m) (h .answer) ∙ b .no-message;
+    }
 
 -- ---- the writer
 

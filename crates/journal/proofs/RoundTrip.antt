@@ -76,23 +76,37 @@ module _ {key nonce ad message line line' : List ℕ} {r : Line}
   module _ (size : ℕ) (big : mostFrame ≤ size) where
     -- from any place at which it stands
     pub read-anywhere : (P T : List ℕ)
-        → readAt key (P ++ (take (r .length) line' ++ T)) (length P) size ≡ reading (handed key nonce ad message size) (length P + r .length)
+        → readAt key (P ++ (take (r .length) line' ++ T)) (length P) size
+        ≡ reading (handed key nonce ad message size) (length P + r .length)
     unfolding shift
     read-anywhere P T =
         ap (λ (p : ℕ). readAt key (P ++ (take (r .length) line' ++ T)) p size) (sym (add-zero (length P)))
         ∙ read-shift (readText key) size P (take (r .length) line' ++ T) 0
-        ∙ rw (journal-is T, at-line (readText key) size big (hexOf (frameOf key nonce ad message)) T plain, line-opens key nonce ad message fits size big, digits-length)
+        ∙ rw (
+          journal-is T,
+          at-line (readText key) size big (hexOf (frameOf key nonce ad message)) T plain,
+          line-opens key nonce ad message fits size big,
+          digits-length,
+        )
 
     -- in the run, at the start of a journal
     pub run-first : (T : List ℕ)
         → run key (take (r .length) line' ++ T) size
-        ≡ entry 0 (reading (handed key nonce ad message size) (r .length)) ∷ map (shiftEntry (r .length)) (run key T size)
-    run-first T = rw (journal-is T, one-line (readText key) (not-end key) size big (hexOf (frameOf key nonce ad message)) T plain, line-opens key nonce ad message fits size big, digits-length)
+        ≡ entry 0 (reading (handed key nonce ad message size) (r .length))
+        ∷ map (shiftEntry (r .length)) (run key T size)
+    run-first T =
+        rw (
+          journal-is T,
+          one-line (readText key) (not-end key) size big (hexOf (frameOf key nonce ad message)) T plain,
+          line-opens key nonce ad message fits size big,
+          digits-length,
+        )
 
     -- in the run, after any newline
     pub run-after : (A T : List ℕ)
         → answersFrom (length A + 1) (run key (A ++ newline ∷ (take (r .length) line' ++ T)) size)
-        ≡ entry (length A + 1) (reading (handed key nonce ad message size) (length A + 1 + r .length)) ∷ map (shiftEntry (length A + 1 + r .length)) (run key T size)
+        ≡ entry (length A + 1) (reading (handed key nonce ad message size) (length A + 1 + r .length))
+        ∷ map (shiftEntry (length A + 1 + r .length)) (run key T size)
     unfolding shiftEntry shift
     run-after A T =
         isolated (readText key) (not-end key) size big A (take (r .length) line' ++ T)
@@ -102,11 +116,13 @@ module _ {key nonce ad message line line' : List ℕ} {r : Line}
   pub handed-out : {frame frame' : List ℕ} {a : Answer} (P T : List ℕ) → mostFrame ≤ length frame
       → LineRead (P ++ (take (r .length) line' ++ T)) (length P) key frame a frame'
       → (a ≡ record { number = 0; next = length P + r .length; n = length ad; m = length message })
-      × (frame' ≡ frameWith nonce ad message (sealTag key nonce ad message) ++ replicate (length frame - (fixed + length ad + length message)) 170)
+      × (frame' ≡ frameWith nonce ad message (sealTag key nonce ad message)
+      ++ replicate (length frame - (fixed + length ad + length message)) 170)
   unfolding handed opened
   handed-out {frame} P T big h =
       let t = sealTag key nonce ad message in
-      let k : length (frameWith nonce ad message t) ≡ fixed + length ad + length message = omega (arith, frame-length nonce ad message t, tag-length key nonce ad message) in
+      let k : length (frameWith nonce ad message t) ≡ fixed + length ad + length message =
+      omega (arith, frame-length nonce ad message t, tag-length key nonce ad message) in
       let e = read-anywhere (length frame) big P T in (
         h .answer ∙ ap (λ (x : Reading). answerOf x) e,
         h .buffer ∙ ap (λ (x : Reading). x .verdict .buffer) e ∙ rw k,

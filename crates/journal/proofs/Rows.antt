@@ -1,4 +1,5 @@
--- The rows of a line by name, and its answer by the row that gives it: the definitions compute under the tests that lead there.
+-- The rows of a line by name, and its answer by the row that gives it: the definitions compute under the tests that
+-- lead there.
 use Prim.Native.Nat.{ℕ, zero, suc, _+_, _%_, _≤_, _<_}
 use mathlib.Core.Path.{_≡_, refl, _∙_}
 use mathlib.Core.Bool.{true}
@@ -50,7 +51,12 @@ text-good text g = (must (λ e. omega (arith, leb-false)), (g .digits, (eq-eqb (
 good-frame : (f : List ℕ) → AllPass (frameRows f) → GoodFrame f
 unfolding frameRows
 good-frame f (least, (few, (within, (most, none)))) =
-    record { least = omega (arith, leb-true); few = omega (arith, leb-true); within = omega (arith, leb-true); most = omega (arith, leb-true) }
+    record {
+      least = omega (arith, leb-true);
+      few = omega (arith, leb-true);
+      within = omega (arith, leb-true);
+      most = omega (arith, leb-true);
+    }
 
 frame-good : (f : List ℕ) → GoodFrame f → AllPass (frameRows f)
 unfolding frameRows
@@ -70,7 +76,9 @@ unfolding lineRows bufferRows textRows frameRows tagRows
 line-pass key text size e =
     let f = unhex text in
     let all = zero-pass (lineRows key text size) tt e in
-    let behind = pass-both (textRows text) (frameRows f ++ tagRows key f) (pass-both (bufferRows size) (textRows text ++ (frameRows f ++ tagRows key f)) all .1) in
+    let behind =
+    pass-both (textRows text) (frameRows f ++ tagRows key f)
+    (pass-both (bufferRows size) (textRows text ++ (frameRows f ++ tagRows key f)) all .1) in
     let last = pass-both (frameRows f) (tagRows key f) (behind .1) in
     record { digits = good-text text (behind .0); frame = good-frame f (last .0); tag = last .1 .0 }
 
@@ -109,11 +117,13 @@ module _ (key text : List ℕ) (size : ℕ) where
   no-room h = rw (lt-leb mostFrame size h)
 
   module _ (big : mostFrame ≤ size) where
-    pub text-fails : (number : ℕ) → number ≡ firstFailing (textRows text) → (number ≡ 0 → ⊥) → readText key text size ≡ refused number size
+    pub text-fails : (number : ℕ) → number ≡ firstFailing (textRows text) → (number ≡ 0 → ⊥)
+        → readText key text size ≡ refused number size
     unfolding readText lineRows bufferRows
     text-fails number e h =
         rw (pass-first (bufferRows size) _ (le-leb mostFrame size big, tt))
-        (given-first key (unhex text) size (textRows text) (frameRows (unhex text) ++ tagRows key (unhex text)) number e h)
+        (given-first key (unhex text) size (textRows text)
+        (frameRows (unhex text) ++ tagRows key (unhex text)) number e h)
 
     pub too-long : mostDigits < length text → readText key text size ≡ refused lineTooLong size
     unfolding textRows firstFailing
@@ -122,7 +132,10 @@ module _ (key text : List ℕ) (size : ℕ) where
     pub text-passes : GoodText text → readText key text size ≡ readFrame key (unhex text) size
     unfolding readText readFrame lineRows bufferRows
     text-passes g =
-        rw (pass-first (bufferRows size) _ (le-leb mostFrame size big, tt), pass-first (textRows text) (frameRows (unhex text) ++ tagRows key (unhex text)) (text-good text g))
+        rw (
+          pass-first (bufferRows size) _ (le-leb mostFrame size big, tt),
+          pass-first (textRows text) (frameRows (unhex text) ++ tagRows key (unhex text)) (text-good text g),
+        )
 
 -- the end answer is not one of the reader's
 pub not-end : (key : List ℕ) → NotEnd (readText key)
@@ -132,7 +145,8 @@ not-end key text size = rw (text-number key text size) (first-not end (lineRows 
 -- ---- the frame
 
 module _ (key f : List ℕ) (size : ℕ) where
-  pub frame-fails : (number : ℕ) → number ≡ firstFailing (frameRows f) → (number ≡ 0 → ⊥) → readFrame key f size ≡ refused number size
+  pub frame-fails : (number : ℕ) → number ≡ firstFailing (frameRows f) → (number ≡ 0 → ⊥)
+      → readFrame key f size ≡ refused number size
   unfolding readFrame
   frame-fails = given-first key f size (frameRows f) (tagRows key f)
 
@@ -170,7 +184,9 @@ given-small key f size (suc k) h g = refused-small (suc k) size h
 text-small : (key text : List ℕ) (size : ℕ) → Small (readText key text size)
 unfolding readText lineRows bufferRows textRows frameRows tagRows
 text-small key text size =
-    given-small key (unhex text) size (firstFailing (lineRows key text size)) (first-lt numbersBelow (lineRows key text size) (omega arith) tt) (λ z. line-pass key text size z .frame)
+    given-small key (unhex text) size (firstFailing (lineRows key text size))
+    (first-lt numbersBelow (lineRows key text size) (omega arith) tt) (λ z. line-pass key text size z .frame)
 
 pub read-small : (key j : List ℕ) (place size : ℕ) → Small (readAt key j place size .verdict)
-read-small key j place size = said (readText key) j place size Small (λ k l. refused-small k size l) (λ t. text-small key t size)
+read-small key j place size =
+    said (readText key) j place size Small (λ k l. refused-small k size l) (λ t. text-small key t size)

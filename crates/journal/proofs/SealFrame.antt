@@ -64,7 +64,8 @@ pub seal-steps : (b key nonce ad message : List ℕ) {w : Morus} {r : Sealed} {f
     → f₃ ≡ allOver f₂ (dataAt + length ad) message
     → w ≡ begun nonce key
     → Encrypted w ad (midOf (dataAt + length ad) (dataAt + length ad + length message - (dataAt + length ad)) f₃) r y
-    → f₄ ≡ allOver (putMid (dataAt + length ad) (dataAt + length ad + length message - (dataAt + length ad)) f₃ y) (dataAt + length ad + length message) (r .tag)
+    → f₄ ≡ allOver (putMid (dataAt + length ad) (dataAt + length ad + length message - (dataAt + length ad)) f₃ y)
+    (dataAt + length ad + length message) (r .tag)
     → f₄ ≡ frameOf key nonce ad message ++ drop (fixed + length ad + length message) b
 seal-steps b key nonce ad message {w} {r} {f₁} {f₂} {f₃} {f₄} {y} len few short room h₁ h₂ h₃ begins said h₄ =
     let p = nonce ++ (length ad ∷ []) in
@@ -80,10 +81,13 @@ seal-steps b key nonce ad message {w} {r} {f₁} {f₂} {f₃} {f₄} {y} len fe
     let lqc : dataAt + n + m ≡ length (q ++ c) = omega (arith, length-append q c) in
     let lt : length t ≡ tagSize = tag-length key nonce ad message in
     let e₁ : f₁ ≡ on b nonce = h₁ ∙ copy-on b [] nonce (omega arith) in
-    let e₀ : set (on b nonce) nonceSize n ≡ on b p = subst (λ (k : ℕ). set (on b nonce) k n ≡ on b p) len (set-on b nonce n (omega arith)) in
+    let e₀ : set (on b nonce) nonceSize n ≡ on b p =
+    subst (λ (k : ℕ). set (on b nonce) k n ≡ on b p) len (set-on b nonce n (omega arith)) in
     let e₂ : f₂ ≡ on b q = h₂ ∙ rw (e₁, e₀, lp) (copy-on b p ad (omega arith)) in
     let e₃ : f₃ ≡ on b (q ++ message) = h₃ ∙ rw (e₂, lq) (copy-on b q message (omega arith)) in
     let x : midOf (dataAt + n) (dataAt + n + m - (dataAt + n)) f₃ ≡ message = rw (lm, e₃, lq) (mid-on b q message) in
     let E = encrypted nonce key (same-call begins x said) (omega arith) (omega arith) in
-    let e₄ : putMid (dataAt + n) (dataAt + n + m - (dataAt + n)) f₃ y ≡ on b (q ++ c) = rw (lm, e₃, lq, E .2) (put-on b q message c lc) in
-    h₄ ∙ rw (e₄, E .1, lqc) (copy-on b (q ++ c) t (omega arith)) ∙ whole b nonce ad c t (fixed + n + m) (omega (arith, frame-length nonce ad c t))
+    let e₄ : putMid (dataAt + n) (dataAt + n + m - (dataAt + n)) f₃ y ≡ on b (q ++ c) =
+    rw (lm, e₃, lq, E .2) (put-on b q message c lc) in
+    h₄ ∙ rw (e₄, E .1, lqc) (copy-on b (q ++ c) t (omega arith))
+    ∙ whole b nonce ad c t (fixed + n + m) (omega (arith, frame-length nonce ad c t))

@@ -59,7 +59,8 @@ module _ (key nonce ad message line : List ℕ) where
 
     written-done : {line' : List ℕ}
         → line' ≡ lineOf key nonce ad message ++ drop (lineLength (length ad) (length message)) line
-        → LineWritten key nonce ad message line (record { number = done; length = lineLength (length ad) (length message) }) line'
+        → LineWritten key nonce ad message line
+        (record { number = done; length = lineLength (length ad) (length message) }) line'
     unfolding writeInto writing
     written-done e = record { report = rw z; buffer = e ∙ rw z }
 
@@ -72,23 +73,33 @@ module _ (key nonce ad message line : List ℕ) where
       f = frameOf key nonce ad message
 
       read-frame : take (fixed + length ad + length message) frame ≡ f
-      read-frame = ap (take (fixed + length ad + length message)) sealed ∙ take-at f _ (fixed + length ad + length message) (frame-size key nonce ad message nonce16)
+      read-frame =
+          ap (take (fixed + length ad + length message)) sealed
+          ∙ take-at f _ (fixed + length ad + length message) (frame-size key nonce ad message nonce16)
 
       reported : r ≡ Report.Digits (2 * (fixed + length ad + length message))
-      reported = said .answer ∙ rw (read-frame, frame-size key nonce ad message nonce16, le-leb (2 * (fixed + length ad + length message)) (length line) (omega (arith, g .fits)))
+      reported =
+          said .answer ∙ rw (
+            read-frame,
+            frame-size key nonce ad message nonce16,
+            le-leb (2 * (fixed + length ad + length message)) (length line) (omega (arith, g .fits)),
+          )
 
       digits-there : line₁ ≡ on line (hexOf f)
       digits-there =
-          let k : length (hexOf f) ≡ 2 * (fixed + length ad + length message) = omega (arith, hex-length f, frame-size key nonce ad message nonce16) in
+          let k : length (hexOf f) ≡ 2 * (fixed + length ad + length message) =
+          omega (arith, hex-length f, frame-size key nonce ad message nonce16) in
           said .buffer ∙ rw (ap written (sym (said .answer) ∙ reported), read-frame, ← k, take-length)
 
       written-line : (digits : ℕ) → r ≡ Report.Digits digits
-          → LineWritten key nonce ad message line (record { number = done; length = digits + 1 }) (set line₁ digits newline)
+          → LineWritten key nonce ad message line (record { number = done; length = digits + 1 })
+          (set line₁ digits newline)
       written-line digits e =
           let d : digits ≡ 2 * (fixed + length ad + length message) = ap written (sym e ∙ reported) in
           let k : digits ≡ length (hexOf f) = omega (arith, hex-length f, frame-size key nonce ad message nonce16) in
           let l : length (lineOf key nonce ad message) ≡ lineLength (length ad) (length message) = line-size key nonce ad message nonce16 in
-          let e₁ : set line₁ digits newline ≡ on line (lineOf key nonce ad message) = rw (digits-there, k) (set-on line (hexOf f) newline (omega (arith, g .fits))) in
+          let e₁ : set line₁ digits newline ≡ on line (lineOf key nonce ad message) =
+          rw (digits-there, k) (set-on line (hexOf f) newline (omega (arith, g .fits))) in
           let e₂ : digits + 1 ≡ lineLength (length ad) (length message) = omega arith in
           rw e₂ (written-done (e₁ ∙ rw l))
 

@@ -21,7 +21,8 @@ pub record Writing : Type 0 where
 -- the writer's order, for a line buffer of `room` bytes
 unfoldable pub writerRows : (n m room : ℕ) → List Row
 writerRows n m room =
-    (leb n mostData else dataTooLong) ∷ (leb m mostMessage else messageTooLong) ∷ (leb (lineLength n m) room else lineTooSmall) ∷ []
+    (leb n mostData else dataTooLong) ∷ (leb m mostMessage else messageTooLong)
+    ∷ (leb (lineLength n m) room else lineTooSmall) ∷ []
 
 unfoldable pub writerNumber : (n m room : ℕ) → ℕ
 writerNumber n m room = firstFailing (writerRows n m room)

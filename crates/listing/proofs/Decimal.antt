@@ -72,5 +72,6 @@ pub last-put : (digits : List ℕ) (i rest : ℕ) → i < length digits → rest
 last-put digits i rest l t = rw (set-here digits i (48 + rest) l, decimal-one rest t)
 
 -- the digits, as the rest of the array
-pub tail-is : (digits : List ℕ) (from n : ℕ) → length digits ≡ wordDigits → drop from digits ≡ decimal n → take (wordDigits - from) (drop from digits) ≡ decimal n
+pub tail-is : (digits : List ℕ) (from n : ℕ) → length digits ≡ wordDigits → drop from digits ≡ decimal n
+    → take (wordDigits - from) (drop from digits) ≡ decimal n
 tail-is digits from n l e = take-all (wordDigits - from) (drop from digits) (omega (arith, length-drop from digits)) ∙ e

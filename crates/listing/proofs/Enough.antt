@@ -23,7 +23,8 @@ module _ (input : List ℕ) (n : ℕ) (h : enoughInput ≤ n) where
         le-leb keyLineSize (length input) (omega arith),
         getD-take n input keyDigits 0 (omega arith),
         take-take keyDigits n input (omega arith),
-        lt-leb (length (drop keyLineSize (take n input))) mostJournal (omega (arith, k, length-drop keyLineSize (take n input))),
+        lt-leb (length (drop keyLineSize (take n input))) mostJournal
+            (omega (arith, k, length-drop keyLineSize (take n input))),
         lt-leb (length (drop keyLineSize input)) mostJournal (omega (arith, length-drop keyLineSize input)),
       )
 

@@ -57,7 +57,8 @@ module _ (key j : List ℕ) (given : ℕ) where
       → Left (answersFrom key j) given p (length j) (rest room (answersFrom key j p))
   unfolding rest
   behind zero p room h l = absurd (omega arith)
-  behind (suc k) p room h l = rw (step key j p h .splits) (go (leb (length (answerText (entry p x))) room) (isEnd x) refl (behind k (x .next)))
+  behind (suc k) p room h l =
+      rw (step key j p h .splits) (go (leb (length (answerText (entry p x))) room) (isEnd x) refl (behind k (x .next)))
     where
       x : Reading
       x = readAt key j p mostFrame
@@ -66,7 +67,8 @@ module _ (key j : List ℕ) (given : ℕ) where
       tail e = cond e [] (answersFrom key j (x .next))
 
       go : (b e : Bool) → isEnd x ≡ e
-          → ((room : ℕ) → x .next ≤ length j → length j < k + x .next → none (rest room (answersFrom key j (x .next))) ≡ false
+          → ((room : ℕ) → x .next ≤ length j → length j < k + x .next
+          → none (rest room (answersFrom key j (x .next))) ≡ false
           → Left (answersFrom key j) given (x .next) (length j) (rest room (answersFrom key j (x .next))))
           → none (cond b (rest (room - length (answerText (entry p x))) (tail e)) (part (entry p x) ∷ tail e)) ≡ false
           → Left (answersFrom key j) given p (length j) (cond b (rest (room - length (answerText (entry p x))) (tail e)) (part (entry p x) ∷ tail e))
@@ -146,9 +148,13 @@ whole input = go (goodKey input) (leb (length (journalOf input)) mostJournal)
     j : List ℕ
     j = journalOf input
 
-    go : (g b : Bool) → texts (cond g (cond b (cond (leb 0 (length j)) (map part (runFrom (keyOf input) j mostFrame (suc (length j)) 0)) []) (alone 0 tooBig)) (alone 0 badKey))
+    go : (g b : Bool)
+        → texts (cond g (cond b
+        (cond (leb 0 (length j)) (map part (runFrom (keyOf input) j mostFrame (suc (length j)) 0)) []) (alone 0 tooBig))
+        (alone 0 badKey))
         ≡ cond g (cond b (answers (runFrom (keyOf input) j mostFrame (suc (length j)) 0)) tooBig) badKey
-    go true true = rw (le-leb 0 (length j) (omega arith)) (texts-answers (runFrom (keyOf input) j mostFrame (suc (length j)) 0))
+    go true true =
+        rw (le-leb 0 (length j) (omega arith)) (texts-answers (runFrom (keyOf input) j mostFrame (suc (length j)) 0))
     go true false = refl
     go false b = refl
 

@@ -30,7 +30,8 @@ module _ (input : List ℕ) where
     unfolding keyLine goodKey
     no-newline h = rw (le-leb keyLineSize (length input) long, ne-eqb (getD input keyDigits 0) newline h)
 
-    module _ (ended : getD input keyDigits 0 ≡ newline) {r : Read} {key : List ℕ} (w : ReadOf (take keyDigits input) (replicate keySize 0) r key) where
+    module _ (ended : getD input keyDigits 0 ≡ newline) {r : Read} {key : List ℕ}
+        (w : ReadOf (take keyDigits input) (replicate keySize 0) r key) where
       digits : length (take keyDigits input) ≡ keyDigits
       digits = length-take-le keyDigits input (omega arith)
 
@@ -48,8 +49,11 @@ module _ (input : List ℕ) where
           go : (b : Bool) → allDigits (take keyDigits input) ≡ b → record { good = true; key = key } ≡ keyLine input
           go true d =
               let a : readOf (take keyDigits input) keySize ≡ Answer.Bytes keySize = rw (digits, d) in
-              let n : length (unhex (take keyDigits input)) ≡ keySize = omega (arith, unhex-length (take keyDigits input), digits) in
-              let x : key ≡ keyOf input = w .buffer ∙ rw (a, take-all keySize (unhex (take keyDigits input)) (omega arith)) (append-nil (unhex (take keyDigits input))) in
+              let n : length (unhex (take keyDigits input)) ≡ keySize =
+              omega (arith, unhex-length (take keyDigits input), digits) in
+              let x : key ≡ keyOf input =
+              w .buffer ∙ rw (a, take-all keySize (unhex (take keyDigits input)) (omega arith))
+              (append-nil (unhex (take keyDigits input))) in
               rw (is-good, d, x)
           go false d = absurd (let z : _≡_ {A = ℕ} 0 5 = ap number (sym e ∙ answer) ∙ rw d in omega arith)
 

@@ -24,11 +24,16 @@ use Rattle.listing.proofs.Steps.{step}
 use Rattle.listing.proofs.Joined.{clash, behind, end-is, next-is, joined}
 
 -- the answer at the place fits, so what is left starts later
-moves : (key j : List ℕ) (p room : ℕ) → roomForAny ≤ room → length j ≤ mostJournal → p ≤ length j → none (rest room (answersFrom key j p)) ≡ false
+moves : (key j : List ℕ) (p room : ℕ) → roomForAny ≤ room → length j ≤ mostJournal → p ≤ length j
+    → none (rest room (answersFrom key j p)) ≡ false
     → (p < firstPlace p (rest room (answersFrom key j p))) × (firstPlace p (rest room (answersFrom key j p)) ≤ length j)
 unfolding rest
 moves key j p room big small h =
-    rw (step key j p h .splits, le-leb (length (answerText (entry p x))) room (omega (arith, answer-length key j p mostFrame (omega arith)))) (go (isEnd x) refl)
+    rw (
+      step key j p h .splits,
+      le-leb (length (answerText (entry p x))) room (omega (arith, answer-length key j p mostFrame (omega arith))),
+    )
+    (go (isEnd x) refl)
   where
     x : Reading
     x = readAt key j p mostFrame
@@ -37,7 +42,8 @@ moves key j p room big small h =
     left = room - length (answerText (entry p x))
 
     go : (e : Bool) → isEnd x ≡ e → none (rest left (cond e [] (answersFrom key j (x .next)))) ≡ false
-        → (p < firstPlace p (rest left (cond e [] (answersFrom key j (x .next))))) × (firstPlace p (rest left (cond e [] (answersFrom key j (x .next)))) ≤ length j)
+        → (p < firstPlace p (rest left (cond e [] (answersFrom key j (x .next)))))
+        × (firstPlace p (rest left (cond e [] (answersFrom key j (x .next)))) ≤ length j)
     go true q f = clash f
     go false q f =
         let o = step key j p h .onward q in
@@ -59,7 +65,8 @@ module _ (input : List ℕ) (place room : ℕ) (big : roomForAny ≤ room) (insi
       go true false e f = clash (rw (le-leb (length tooBig) room (omega arith)) at f)
       go false b e f = clash (rw (le-leb (length badKey) room (omega arith)) at f)
 
-pub forward : {input out out' : List ℕ} {place : ℕ} {r : Piece} → PieceFilled input place out r out' → roomForAny ≤ length out → place ≤ length (journalOf input) → r .end ≡ false
+pub forward : {input out out' : List ℕ} {place : ℕ} {r : Piece} → PieceFilled input place out r out'
+    → roomForAny ≤ length out → place ≤ length (journalOf input) → r .end ≡ false
     → (place < r .next) × (r .next ≤ length (journalOf input))
 forward {input} {out} {out'} {place} f big h e = rw (next-is f) (parts-move input place (length out) big h (sym (end-is f) ∙ e))
 

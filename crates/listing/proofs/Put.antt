@@ -16,7 +16,8 @@ put-nil old at = record { behind = sym (add-zero at); buffer = paste-zero old at
 pub put-one : (old : List ℕ) (at b : ℕ) → at < length old → Put old at (b ∷ []) (at + 1) (set old at b)
 put-one old at b h = record { behind = refl; buffer = set-split old at b h ∙ rw (add-one, append-snoc (take at old) b (drop (suc at) old)) }
 
-pub put-copy : {old new now : List ℕ} {at : ℕ} → now ≡ allOver old at new → at + length new ≤ length old → Put old at new (at + length new) now
+pub put-copy : {old new now : List ℕ} {at : ℕ} → now ≡ allOver old at new → at + length new ≤ length old
+    → Put old at new (at + length new) now
 put-copy {old} {new} {now} {at} e h =
     let k : min (length old - at) (length new) ≡ length new = omega arith in
     record { behind = refl; buffer = e ∙ rw (k, take-length new) }

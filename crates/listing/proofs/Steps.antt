@@ -25,8 +25,11 @@ module _ (key j : List ℕ) where
   inside p h = rw (le-leb p (length j) h)
 
   pub record Step (p : ℕ) : Type 0 where
-    pub splits : answersFrom key j p ≡ part (entry p (readAt key j p mostFrame)) ∷ cond (isEnd (readAt key j p mostFrame)) [] (answersFrom key j (readAt key j p mostFrame .next))
-    pub onward : isEnd (readAt key j p mostFrame) ≡ false → (p < readAt key j p mostFrame .next) × (readAt key j p mostFrame .next ≤ length j)
+    pub splits : answersFrom key j p
+        ≡ part (entry p (readAt key j p mostFrame))
+        ∷ cond (isEnd (readAt key j p mostFrame)) [] (answersFrom key j (readAt key j p mostFrame .next))
+    pub onward : isEnd (readAt key j p mostFrame) ≡ false
+        → (p < readAt key j p mostFrame .next) × (readAt key j p mostFrame .next ≤ length j)
 
   pub step : (p : ℕ) → p ≤ length j → Step p
   unfolding Run.runFrom refused
@@ -37,7 +40,9 @@ module _ (key j : List ℕ) where
           let z = at-end (readText key) j p mostFrame (omega arith) e in
           record {
             splits = inside p h ∙ simp z;
-            onward = λ f. absurd (eqb-false (readAt key j p mostFrame .verdict .number) end f (ap (λ (x : Reading). x .verdict .number) z));
+            onward =
+                λ f. absurd (eqb-false (readAt key j p mostFrame .verdict .number) end f
+                (ap (λ (x : Reading). x .verdict .number) z));
           }
       go (inr l) =
           let m = moves (readText key) (not-end key) mostFrame (omega arith) j p l in
@@ -45,6 +50,11 @@ module _ (key j : List ℕ) where
           record {
             splits =
                 inside p h
-                ∙ rw (ne-eqb (x .verdict .number) end (m .not-end), inside (x .next) (m .within), fuel (readText key) (not-end key) mostFrame (omega arith) j (length j) (suc (length j)) (x .next) (m .within) (omega (arith, m)) (omega (arith, m)));
+                ∙ rw (
+                  ne-eqb (x .verdict .number) end (m .not-end),
+                  inside (x .next) (m .within),
+                  fuel (readText key) (not-end key) mostFrame (omega arith) j (length j) (suc (length j)) (x .next)
+                      (m .within) (omega (arith, m)) (omega (arith, m)),
+                );
             onward = λ f. (m .ahead, m .within);
           }

@@ -22,4 +22,6 @@ journalOf input = drop keyLineSize input
 
 -- what reading the line gives; the key of a bad one is zeros, and is not used
 unfoldable pub keyLine : (input : List ℕ) → KeyLine
-keyLine input = cond (goodKey input) (record { good = true; key = keyOf input }) (record { good = false; key = replicate keySize 0 })
+keyLine input =
+    cond (goodKey input) (record { good = true; key = keyOf input })
+    (record { good = false; key = replicate keySize 0 })

@@ -122,7 +122,8 @@ module _ (s : State) (b : List ℕ) {p : List ℕ} (ep : p ≡ padded 32 b) wher
   unfolding sealing
   sealed-state es = rw (es, ep, lane-padded)
 
-  sealed-bytes : {d : List ℕ} (n : ℕ) → n ≡ min (length b) 32 → d ≡ xorBytes p (stream s) → take n d ≡ xorBytes b (stream s)
+  sealed-bytes : {d : List ℕ} (n : ℕ) → n ≡ min (length b) 32 → d ≡ xorBytes p (stream s)
+      → take n d ≡ xorBytes b (stream s)
   sealed-bytes n e ed = rw (ed, ep) (part-out b n (omega arith) s)
 
   -- a whole block opened: what is xored of its block is what is xored of b
@@ -136,7 +137,8 @@ module _ (s : State) (b : List ℕ) {p : List ℕ} (ep : p ≡ padded 32 b) wher
   opened-state h es = rw (es, whole-out h)
 
 -- a block's plaintext has 32 bytes
-pub opened-length : (s : State) (b : List ℕ) {p d : List ℕ} → p ≡ padded 32 b → d ≡ xorBytes p (stream s) → 32 ≡ length d
+pub opened-length : (s : State) (b : List ℕ) {p d : List ℕ} → p ≡ padded 32 b → d ≡ xorBytes p (stream s)
+    → 32 ≡ length d
 unfolding padded
 opened-length s b ep ed = rw (ed, ep, length-xor, length-stream)
 
@@ -152,13 +154,16 @@ pub absorb-on : {s₀ s s' : State} {m p : List ℕ} {i n : ℕ} → Taking s₀
 absorb-on {s₀} {s} {s'} {m} {p} {i} {n} v h en ep es = take-on v h en (sealed-state s (drop i m) ep es)
 
 pub cover-on : {s₀ s s' : State} {m₀ m p d m' : List ℕ} {i n : ℕ} → Going sealing s₀ m₀ s m i → i < length m → n ≡ min (length m - i) 32
-    → p ≡ padded 32 (drop i m) → (s' ≡ sealing s p) × (d ≡ xorBytes p (stream s)) → m' ≡ paste m i d (min (length m - i) 32)
+    → p ≡ padded 32 (drop i m) → (s' ≡ sealing s p) × (d ≡ xorBytes p (stream s))
+    → m' ≡ paste m i d (min (length m - i) 32)
     → Going sealing s₀ m₀ s' m' (i + n)
 cover-on {s₀} {s} {s'} {m₀} {m} {p} {d} {m'} {i} {n} v h en ep e em =
-    go-on d v h en (sealed-state s (drop i m) ep (e .0)) (sealed-bytes s (drop i m) ep n (all m i n h en) (e .1)) (em ∙ ap (paste m i d) (sym en))
+    go-on d v h en (sealed-state s (drop i m) ep (e .0)) (sealed-bytes s (drop i m) ep n (all m i n h en) (e .1))
+    (em ∙ ap (paste m i d) (sym en))
 
 pub uncover-on : {s₀ s s' : State} {m₀ m p d m' : List ℕ} {i : ℕ} → Going opening s₀ m₀ s m i → 32 ≤ length m - i
-    → p ≡ padded 32 (drop i m) → (s' ≡ opening s p) × (d ≡ xorBytes p (stream s)) → m' ≡ paste m i d (min (length m - i) (length d))
+    → p ≡ padded 32 (drop i m) → (s' ≡ opening s p) × (d ≡ xorBytes p (stream s))
+    → m' ≡ paste m i d (min (length m - i) (length d))
     → Going opening s₀ m₀ s' m' (i + 32)
 uncover-on {s₀} {s} {s'} {m₀} {m} {p} {d} {m'} {i} v h ep e em =
     let b : List ℕ = drop i m in
@@ -166,13 +171,16 @@ uncover-on {s₀} {s} {s'} {m₀} {m} {p} {d} {m'} {i} v h ep e em =
     let ed : d ≡ xorBytes b (stream s) = e .1 ∙ whole-out s b ep lb in
     let ld : length d ≡ 32 = rw (ed, length-xor, length-stream) (omega arith) in
     let en : min (length m - i) (length d) ≡ 32 = omega arith in
-    go-on d v (omega arith) (omega arith) (opened-state s b ep lb (e .0)) (take-all 32 d (omega arith) ∙ ed) (em ∙ ap (paste m i d) en)
+    go-on d v (omega arith) (omega arith) (opened-state s b ep lb (e .0)) (take-all 32 d (omega arith) ∙ ed)
+    (em ∙ ap (paste m i d) en)
 
 pub uncover-end : {s₀ s s' : State} {m₀ m b d m' : List ℕ} {i n : ℕ} → Going opening s₀ m₀ s m i → n ≡ length m - i → 0 < n → n < 32
-    → b ≡ drop i m → (s' ≡ opening s b) × (d ≡ padded 32 (xorBytes b (stream s))) → m' ≡ paste m i d (min (length m - i) 32)
+    → b ≡ drop i m → (s' ≡ opening s b) × (d ≡ padded 32 (xorBytes b (stream s)))
+    → m' ≡ paste m i d (min (length m - i) 32)
     → Going opening s₀ m₀ s' m' (i + n)
 uncover-end {s₀} {s} {s'} {m₀} {m} {b} {d} {m'} {i} {n} v en h h' eb e em =
     let l : length b ≡ n = rw (eb, length-drop) (sym en) in
     let eb' : xorBytes b (stream s) ≡ xorBytes (drop i m) (stream s) = rw eb in
     let k : min (length m - i) 32 ≡ n = omega arith in
-    go-on d v (omega arith) (omega arith) (rw eb at (e .0)) ((rw l at (part-bytes s b (omega arith) (e .1))) ∙ eb') (em ∙ ap (paste m i d) k)
+    go-on d v (omega arith) (omega arith) (rw eb at (e .0)) ((rw l at (part-bytes s b (omega arith) (e .1))) ∙ eb')
+    (em ∙ ap (paste m i d) k)

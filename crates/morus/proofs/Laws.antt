@@ -91,27 +91,35 @@ passes d m hd hm = short-passes (length d) (length m) (record { data-short = hd;
 
 -- what a call gives, at lengths below 2^61
 module _ (nonce key : List ℕ) {d : List ℕ} where
-  pub encrypted : {m m' : List ℕ} {r : Sealed} → Encrypted (begun nonce key) d m r m' → length d < limit → length m < limit
+  pub encrypted : {m m' : List ℕ} {r : Sealed} → Encrypted (begun nonce key) d m r m' → length d < limit
+      → length m < limit
       → (r .number ≡ done) × (r .tag ≡ sealTag key nonce d m) × (m' ≡ seal key nonce d m)
   unfolding begun sealTag seal
   encrypted {m} e hd hm = sealing-done (rw (pass-zero _ (passes d m hd hm)) at e)
 
-  pub opened : {c m' : List ℕ} {r : ℕ} (t : List ℕ) → Decrypted (begun nonce key) d c t r m' → length d < limit → length c < limit
+  pub opened : {c m' : List ℕ} {r : ℕ} (t : List ℕ) → Decrypted (begun nonce key) d c t r m' → length d < limit
+      → length c < limit
       → accepts key nonce d c t ≡ true → (r ≡ done) × (m' ≡ unseal key nonce d c)
   unfolding begun accepts unseal tagRows firstFailing
-  opened {c} t e hd hc h = opening-done (rw h at (rw (pass-first _ (tagRows (begun nonce key) d c t) (passes d c hd hc)) at e))
+  opened {c} t e hd hc h =
+      opening-done (rw h at (rw (pass-first _ (tagRows (begun nonce key) d c t) (passes d c hd hc)) at e))
 
-  pub refused : {c m' : List ℕ} {r : ℕ} (t : List ℕ) → Decrypted (begun nonce key) d c t r m' → length d < limit → length c < limit
+  pub refused : {c m' : List ℕ} {r : ℕ} (t : List ℕ) → Decrypted (begun nonce key) d c t r m' → length d < limit
+      → length c < limit
       → accepts key nonce d c t ≡ false → (r ≡ tagDiffers) × (m' ≡ replicate (length c) fill)
   unfolding begun accepts tagRows firstFailing
-  refused {c} t e hd hc h = opening-refused (rw h at (rw (pass-first _ (tagRows (begun nonce key) d c t) (passes d c hd hc)) at e))
+  refused {c} t e hd hc h =
+      opening-refused (rw h at (rw (pass-first _ (tagRows (begun nonce key) d c t) (passes d c hd hc)) at e))
 
   -- into a second buffer of the right length it is as in place
   pub encrypted-into : {m out' : List ℕ} {r : Sealed} (out : List ℕ) → length out ≡ length m → EncryptedInto (begun nonce key) d m out r out'
-      → length d < limit → length m < limit → (r .number ≡ done) × (r .tag ≡ sealTag key nonce d m) × (out' ≡ seal key nonce d m)
+      → length d < limit → length m < limit
+      → (r .number ≡ done) × (r .tag ≡ sealTag key nonce d m) × (out' ≡ seal key nonce d m)
   unfolding begun sealTag seal
   encrypted-into {m} out e s hd hm =
-      let f = fits-passes (length d) (length m) (length out) (record { short = record { data-short = hd; text-short = hm }; same = e }) in
+      let f =
+      fits-passes (length d) (length m) (length out)
+      (record { short = record { data-short = hd; text-short = hm }; same = e }) in
       sealing-done (rw (pass-zero _ f) at s)
 
 pub opened-alike : (w : Morus) (d c t out : List ℕ) {r : ℕ} {out' : List ℕ} → length out ≡ length c

@@ -41,7 +41,10 @@ module _ (d m : ℕ) where
     fits-of : AllPass (intoRows d m o) → Fits d m o
     unfolding intoRows lengthRows
     fits-of (a, (b, (c, none))) =
-        record { short = record { data-short = ltb-true d limit a; text-short = ltb-true m limit b }; same = eqb-true o m c }
+        record {
+          short = record { data-short = ltb-true d limit a; text-short = ltb-true m limit b };
+          same = eqb-true o m c;
+        }
 
     pub fits-pass : firstFailing (intoRows d m o) ≡ 0 → Fits d m o
     unfolding intoRows lengthRows

@@ -67,7 +67,8 @@ reopened zero to e s = record { number = s .number; buffer = s .buffer }
 reopened (suc k) to e s = record { number = s .number; buffer = rw e (s .buffer) }
 
 -- Refused by the rows before the tag's.
-pub open-lengths : (w : Morus) (d c out : List ℕ) (rows behind : List Row) {n : ℕ} {out' : List ℕ} → n ≡ firstFailing rows → (n ≡ 0 → ⊥)
+pub open-lengths : (w : Morus) (d c out : List ℕ) (rows behind : List Row) {n : ℕ} {out' : List ℕ}
+    → n ≡ firstFailing rows → (n ≡ 0 → ⊥)
     → out' ≡ replicate (length out) fill → Opening (firstFailing (rows ++ behind)) w d c out n out'
 open-lengths w d c out rows behind en h eo =
     let e : firstFailing (rows ++ behind) ≡ firstFailing rows = fail-first rows behind (λ z. h (en ∙ z)) in
@@ -81,12 +82,16 @@ module _ (w : Morus) (d c t out : List ℕ) (p : Short (length d) (length c)) {o
 
   judged : (b : Bool) → same t own ≡ b → number ≡ cond b done tagDiffers
   unfolding tagRows firstFailing acceptsFrom
-  judged b e = pass-first (lengthRows (length d) (length c)) (tagRows w d c t) (short-passes (length d) (length c) p) ∙ rw (← eo, e)
+  judged b e =
+      pass-first (lengthRows (length d) (length c)) (tagRows w d c t) (short-passes (length d) (length c) p)
+      ∙ rw (← eo, e)
 
-  pub open-same : {out' : List ℕ} → same t own ≡ true → out' ≡ unsealFrom (w .0) d c → Opening number w d c out done out'
+  pub open-same : {out' : List ℕ} → same t own ≡ true → out' ≡ unsealFrom (w .0) d c
+      → Opening number w d c out done out'
   open-same e eb = open-done w d c out (judged true e) refl eb
 
-  pub open-other : {out' : List ℕ} → same t own ≡ false → out' ≡ replicate (length out) fill → Opening number w d c out tagDiffers out'
+  pub open-other : {out' : List ℕ} → same t own ≡ false → out' ≡ replicate (length out) fill
+      → Opening number w d c out tagDiffers out'
   open-other e eb =
       let j : number ≡ tagDiffers = judged false e in
       open-refused _ w d c out (λ z. omega arith) (sym j) eb
@@ -104,7 +109,8 @@ module _ (w : Morus) (d m out : List ℕ) (e : firstFailing (intoRows (length d)
       let f = sealing-done (rw (pass-zero _ passes) at (rw ec at s)) in
       seal-done w d m out e (f .0) (f .1) (f .2)
 
-  pub opened-into : {c c' : List ℕ} {r : ℕ} (t : List ℕ) → c ≡ m → Decrypted w d c t r c' → DecryptedInto w d m t out r c'
+  pub opened-into : {c c' : List ℕ} {r : ℕ} (t : List ℕ) → c ≡ m → Decrypted w d c t r c'
+      → DecryptedInto w d m t out r c'
   opened-into t ec s =
       rw (pass-first _ (tagRows w d m t) (fits-passes (length d) (length m) (length out) into-fits))
       (reopened _ out (into-fits .same) (rw (pass-first _ (tagRows w d m t) passes) at (rw ec at s)))

@@ -29,8 +29,8 @@ pub(crate) fn absorb(s: State, ad: &[u8]) -> State
     st
 }
 
-// The block `b` over the bytes of `m` from byte `i` on, as far as `m` goes. By value: a sealed block then waits in memory
-// while the state is updated.
+// The block `b` over the bytes of `m` from byte `i` on, as far as `m` goes. By value: a sealed block then waits in
+// memory while the state is updated.
 fn store(m: &mut [u8], i: usize, b: [u8; 32])
     ensures { λ _. ⌜ now (m .exit) ≡ paste (now (m .entry)) i b (min (length (now (m .entry)) - i) 32) ⌝ }
 {

@@ -62,15 +62,28 @@ alike a b (e ∷ es) = (
 
 module _ (read : Reader) (not-end : NotEnd read) (size : ℕ) (big : mostFrame ≤ size) where
   plain-before : (A : List ℕ) → Plain A → Before read size A
-  plain-before A h = record { answers = entry 0 (reading (read A size) (length A + 1)) ∷ []; places = (omega arith, tt); splits = λ T. one-line read not-end size big A T h }
+  plain-before A h =
+      record {
+        answers = entry 0 (reading (read A size) (length A + 1)) ∷ [];
+        places = (omega arith, tt);
+        splits = λ T. one-line read not-end size big A T h;
+      }
 
   line-before : (s A : List ℕ) → Plain s → Before read size A → Before read size (s ++ newline ∷ A)
   line-before s A h B = record {
     answers = entry 0 (reading (read s size) (length s + 1)) ∷ map (shiftEntry (length s + 1)) (B .answers);
     places = (omega arith, up-to-shift (length s + 1) (length A) (length (s ++ newline ∷ A)) (B .answers) (omega (arith, length-append s (newline ∷ A))) (B .places));
     splits = λ T.
-        let d = shifts (length s + 1) (length A + 1) (length (s ++ newline ∷ A) + 1) (run read T size) (omega (arith, length-append s (newline ∷ A))) in
-        rw (append-assoc s (newline ∷ A) (newline ∷ T), one-line read not-end size big s (A ++ newline ∷ T) h, B .splits T, map-append, d);
+        let d =
+        shifts (length s + 1) (length A + 1) (length (s ++ newline ∷ A) + 1) (run read T size)
+        (omega (arith, length-append s (newline ∷ A))) in
+        rw (
+          append-assoc s (newline ∷ A) (newline ∷ T),
+          one-line read not-end size big s (A ++ newline ∷ T) h,
+          B .splits T,
+          map-append,
+          d,
+        );
   }
 
   before-fuel : (k : ℕ) (A : List ℕ) → length A ≤ k → Before read size A
@@ -78,7 +91,8 @@ module _ (read : Reader) (not-end : NotEnd read) (size : ℕ) (big : mostFrame �
   before-fuel zero (x ∷ A) h = absurd (omega arith)
   before-fuel (suc k) A h = go (eq-or-lt-of-le (newlineAt-le A)) (before-fuel k)
     where
-      go : (newlineAt A ≡ length A) ⊎ (newlineAt A < length A) → ((R : List ℕ) → length R ≤ k → Before read size R) → Before read size A
+      go : (newlineAt A ≡ length A) ⊎ (newlineAt A < length A) → ((R : List ℕ) → length R ≤ k → Before read size R)
+          → Before read size A
       go (inl p) ih = plain-before A p
       go (inr l) ih =
           subst (Before read size) (sym (cut A l))
@@ -92,10 +106,13 @@ module _ (read : Reader) (not-end : NotEnd read) (size : ℕ) (big : mostFrame �
   first A T =
       let rest = map (shiftEntry (length A + 1)) (run read T size) in
       rw (before A .splits T)
-      (before-here (length A) (before A .answers) rest (before A .places) ∙ rw (before-shifted (length A + 1) (run read T size), append-nil))
+      (before-here (length A) (before A .answers) rest (before A .places)
+      ∙ rw (before-shifted (length A + 1) (run read T size), append-nil))
 
   -- the answers to T's lines, behind any A and a newline, are those of T by itself, shifted
-  pub isolated : (A T : List ℕ) → answersFrom (length A + 1) (run read (A ++ newline ∷ T) size) ≡ map (shiftEntry (length A + 1)) (run read T size)
+  pub isolated : (A T : List ℕ)
+      → answersFrom (length A + 1) (run read (A ++ newline ∷ T) size)
+      ≡ map (shiftEntry (length A + 1)) (run read T size)
   isolated A T =
       rw (before A .splits T)
       (from-behind (length A) (before A .answers) (map (shiftEntry (length A + 1)) (run read T size)) (before A .places)

@@ -24,7 +24,8 @@ refused-blanks k size = record { blank = λ h. record { fill = refl; no-data = r
 
 module _ (read : Reader) (j : List ℕ) (p size : ℕ) where
   -- a line whose text is known is answered by it
-  pub at-text : mostFrame ≤ size → (t : List ℕ) → Plain t → lineAt j p ≡ t ++ (newline ∷ []) → readAt read j p size ≡ reading (read t size) (p + length (lineAt j p))
+  pub at-text : mostFrame ≤ size → (t : List ℕ) → Plain t → lineAt j p ≡ t ++ (newline ∷ [])
+      → readAt read j p size ≡ reading (read t size) (p + length (lineAt j p))
   unfolding lineAt readLine
   at-text big t h e =
       let s = drop p j in
@@ -44,7 +45,8 @@ module _ (read : Reader) (j : List ℕ) (p size : ℕ) where
       (λ b l e z. record { text = textOf (drop p j); line = line-text (drop p j) e; opens = z })
 
   -- what holds of each refusal of the table and of each verdict of the reader holds of what is said at any place
-  pub said : (P : Verdict → Type 0) → ((k : ℕ) → k < numbersBelow → P (refused k size)) → ((t : List ℕ) → P (read t size)) → P (readAt read j p size .verdict)
+  pub said : (P : Verdict → Type 0) → ((k : ℕ) → k < numbersBelow → P (refused k size))
+      → ((t : List ℕ) → P (read t size)) → P (readAt read j p size .verdict)
   unfolding readLine
   said P r t =
       rows read j p size (λ (x : Reading). P (x .verdict))

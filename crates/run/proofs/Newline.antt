@@ -39,7 +39,8 @@ pub getD-newlineAt : (s : List ℕ) → newlineAt s < length s → getD s (newli
 getD-newlineAt [] h = absurd (omega arith)
 getD-newlineAt (x ∷ xs) h = go (eqb x newline) refl (getD-newlineAt xs) h
   where
-    go : (b : Bool) → eqb x newline ≡ b → (newlineAt xs < length xs → getD xs (newlineAt xs) 0 ≡ newline) → cond b 0 (suc (newlineAt xs)) < suc (length xs)
+    go : (b : Bool) → eqb x newline ≡ b → (newlineAt xs < length xs → getD xs (newlineAt xs) 0 ≡ newline)
+        → cond b 0 (suc (newlineAt xs)) < suc (length xs)
         → getD (x ∷ xs) (cond b 0 (suc (newlineAt xs))) 0 ≡ newline
     go true e ih h = eqb-true x newline e
     go false e ih h = ih (omega arith)

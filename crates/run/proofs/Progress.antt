@@ -16,7 +16,8 @@ use Rattle.run.specs.Claims.{NotEnd, Every, Moves, Ends}
 use Rattle.run.proofs.Rows.{rows, at-end}
 
 module _ (read : Reader) (not-end : NotEnd read) (size : ℕ) (big : mostFrame ≤ size) where
-  pub moves : (j : List ℕ) (p : ℕ) → p < length j → Moves j p (readAt read j p size .verdict .number) (readAt read j p size .next)
+  pub moves : (j : List ℕ) (p : ℕ) → p < length j
+      → Moves j p (readAt read j p size .verdict .number) (readAt read j p size .next)
   unfolding refused readLine
   moves j p h =
       rows read j p size (λ (r : Reading). Moves j p (r .verdict .number) (r .next))
@@ -24,20 +25,30 @@ module _ (read : Reader) (not-end : NotEnd read) (size : ℕ) (big : mostFrame �
       (λ b l. absurd (omega arith))
       (λ b e. absurd (omega arith))
       (λ b l e. record { ahead = h; within = omega arith; not-end = omega arith })
-      (λ b l e. record { ahead = omega arith; within = omega (arith, length-drop p j); not-end = not-end (textOf (drop p j)) size })
+      (λ b l e. record {
+        ahead = omega arith;
+        within = omega (arith, length-drop p j);
+        not-end = not-end (textOf (drop p j)) size;
+      })
 
   -- calls enough to reach the end give one list
-  pub fuel : (j : List ℕ) (k k′ p : ℕ) → p ≤ length j → length j < k + p → length j < k′ + p → runFrom read j size k p ≡ runFrom read j size k′ p
+  pub fuel : (j : List ℕ) (k k′ p : ℕ) → p ≤ length j → length j < k + p → length j < k′ + p
+      → runFrom read j size k p ≡ runFrom read j size k′ p
   unfolding runFrom refused
   fuel j zero k′ p h e e′ = absurd (omega arith)
   fuel j (suc k) zero p h e e′ = absurd (omega arith)
   fuel j (suc k) (suc k′) p h e e′ = go (eq-or-lt-of-le h) (fuel j k k′)
     where
       go : (p ≡ length j) ⊎ (p < length j)
-          → ((q : ℕ) → q ≤ length j → length j < k + q → length j < k′ + q → runFrom read j size k q ≡ runFrom read j size k′ q)
+          → ((q : ℕ) → q ≤ length j → length j < k + q → length j < k′ + q
+          → runFrom read j size k q ≡ runFrom read j size k′ q)
           → runFrom read j size (suc k) p ≡ runFrom read j size (suc k′) p
       go (inl q) ih = simp (q, at-end read j (length j) size big refl)
-      go (inr l) ih = let m = moves j p l in simp (ne-eqb _ end (m .not-end), ih (readAt read j p size .next) (m .within) (omega arith) (omega arith))
+      go (inr l) ih =
+          let m = moves j p l in simp (
+            ne-eqb _ end (m .not-end),
+            ih (readAt read j p size .next) (m .within) (omega arith) (omega arith),
+          )
 
   -- at most k calls, of which only the last says end, where k are enough to reach it
   record EndsFrom (j : List ℕ) (k p : ℕ) : Type 0 where

@@ -20,12 +20,15 @@ module _ (read : Reader) (j : List ℕ) (place size : ℕ) where
       → (size < mostFrame → P (reading (refused bufferTooSmall size) place))
       → (mostFrame ≤ size → length j < place → P (reading (refused placeBeyond size) place))
       → (mostFrame ≤ size → place ≡ length j → P (reading (refused end size) place))
-      → (mostFrame ≤ size → place < length j → length (drop place j) ≤ newlineAt (drop place j) → P (reading (refused noNewline size) (length j)))
-      → (mostFrame ≤ size → place < length j → newlineAt (drop place j) < length (drop place j) → P (readLine read j place size))
+      → (mostFrame ≤ size → place < length j
+      → length (drop place j) ≤ newlineAt (drop place j) → P (reading (refused noNewline size) (length j)))
+      → (mostFrame ≤ size → place < length j → newlineAt (drop place j) < length (drop place j)
+      → P (readLine read j place size))
       → P (readAt read j place size)
   unfolding readAt readBy placeRows bufferRows firstFailing
   rows P p13 p12 p14 p11 line =
-      go (leb mostFrame size) (leb place (length j)) (eqb place (length j)) (ltb (newlineAt (drop place j)) (length (drop place j))) refl refl refl refl
+      go (leb mostFrame size) (leb place (length j)) (eqb place (length j))
+      (ltb (newlineAt (drop place j)) (length (drop place j))) refl refl refl refl
     where
       go : (b13 b12 b14 b11 : Bool) → leb mostFrame size ≡ b13 → leb place (length j) ≡ b12 → eqb place (length j) ≡ b14
           → ltb (newlineAt (drop place j)) (length (drop place j)) ≡ b11
@@ -58,16 +61,27 @@ module _ (read : Reader) (j : List ℕ) (place size : ℕ) where
     unfolding readAt readBy placeRows bufferRows firstFailing
     at-end e = rw (le-leb mostFrame size big, le-leb place (length j) (omega arith), eq-eqb place (length j) e)
 
-    pub unended : place < length j → length (drop place j) ≤ newlineAt (drop place j) → readAt read j place size ≡ reading (refused noNewline size) (length j)
+    pub unended : place < length j → length (drop place j) ≤ newlineAt (drop place j)
+        → readAt read j place size ≡ reading (refused noNewline size) (length j)
     unfolding readAt readBy placeRows bufferRows firstFailing
     unended h e =
-        rw (le-leb mostFrame size big, le-leb place (length j) (omega arith), ne-eqb place (length j) (omega arith), le-ltb (newlineAt (drop place j)) (length (drop place j)) e)
+        rw (
+          le-leb mostFrame size big,
+          le-leb place (length j) (omega arith),
+          ne-eqb place (length j) (omega arith),
+          le-ltb (newlineAt (drop place j)) (length (drop place j)) e,
+        )
 
     pub found : place < length j → newlineAt (drop place j) < length (drop place j)
         → readAt read j place size ≡ readLine read j place size
     unfolding readAt readBy placeRows bufferRows firstFailing
     found h e =
-        rw (le-leb mostFrame size big, le-leb place (length j) (omega arith), ne-eqb place (length j) (omega arith), lt-ltb (newlineAt (drop place j)) (length (drop place j)) e)
+        rw (
+          le-leb mostFrame size big,
+          le-leb place (length j) (omega arith),
+          ne-eqb place (length j) (omega arith),
+          lt-ltb (newlineAt (drop place j)) (length (drop place j)) e,
+        )
 
     -- ---- the last two, by where the search for the newline ended
 
@@ -75,7 +89,8 @@ module _ (read : Reader) (j : List ℕ) (place size : ℕ) where
       pub unended-at : stop ≡ length j → readAt read j place size ≡ reading (refused noNewline size) stop
       unended-at e = rw e (unended h (omega (arith, length-drop place j)))
 
-      pub found-at : (stop ≡ length j → ⊥) → readAt read j place size ≡ reading (read (take (stop - place) (drop place j)) size) (stop + 1)
+      pub found-at : (stop ≡ length j → ⊥)
+          → readAt read j place size ≡ reading (read (take (stop - place) (drop place j)) size) (stop + 1)
       unfolding readLine
       found-at e =
           let n : stop - place ≡ newlineAt (drop place j) = omega arith in

@@ -30,18 +30,21 @@ every-cond P false l h = h
 
 module _ (read : Reader) (size : ℕ) where
   -- each entry of the run is the reading at its place
-  pub reads : (j : List ℕ) (k p : ℕ) → Every (λ (e : Entry). e .reading ≡ readAt read j (e .place) size) (runFrom read j size k p)
+  pub reads : (j : List ℕ) (k p : ℕ)
+      → Every (λ (e : Entry). e .reading ≡ readAt read j (e .place) size) (runFrom read j size k p)
   unfolding runFrom
   reads j zero p = tt
   reads j (suc k) p =
       (refl, every-cond _ (eqb (readAt read j p size .verdict .number) end) _ (reads j k (readAt read j p size .next)))
 
   -- a line's answer
-  pub at-line : mostFrame ≤ size → (s t : List ℕ) → Plain s → readAt read (s ++ newline ∷ t) 0 size ≡ reading (read s size) (length s + 1)
+  pub at-line : mostFrame ≤ size → (s t : List ℕ) → Plain s
+      → readAt read (s ++ newline ∷ t) 0 size ≡ reading (read s size) (length s + 1)
   unfolding readLine
   at-line big s t h =
       let l = newlineAt-plain s t h in
-      found read (s ++ newline ∷ t) 0 size big (omega (arith, length-append s (newline ∷ t))) (omega (arith, length-append s (newline ∷ t)))
+      found read (s ++ newline ∷ t) 0 size big (omega (arith, length-append s (newline ∷ t)))
+      (omega (arith, length-append s (newline ∷ t)))
       ∙ rw (l, take-append-seam s (newline ∷ t), zero-add)
 
 module _ (read : Reader) (not-end : NotEnd read) (size : ℕ) (big : mostFrame ≤ size) where
@@ -51,10 +54,12 @@ module _ (read : Reader) (not-end : NotEnd read) (size : ℕ) (big : mostFrame �
   unfolding run
   rest-run s t k l =
       simp (append-snoc, length-append, add-zero) at (run-shift read size (s ++ (newline ∷ [])) t k 0)
-      ∙ ap (map (shiftEntry (length s + 1))) (fuel read not-end size big t k (suc (length t)) 0 (omega arith) (omega arith) (omega arith))
+      ∙ ap (map (shiftEntry (length s + 1)))
+      (fuel read not-end size big t k (suc (length t)) 0 (omega arith) (omega arith) (omega arith))
 
   pub one-line : (s t : List ℕ) → Plain s
-      → run read (s ++ newline ∷ t) size ≡ entry 0 (reading (read s size) (length s + 1)) ∷ map (shiftEntry (length s + 1)) (run read t size)
+      → run read (s ++ newline ∷ t) size
+      ≡ entry 0 (reading (read s size) (length s + 1)) ∷ map (shiftEntry (length s + 1)) (run read t size)
   unfolding run runFrom
   one-line s t h =
       simp (at-line read size big s t h, ne-eqb (read s size .number) end (not-end s size))
@@ -63,9 +68,14 @@ module _ (read : Reader) (not-end : NotEnd read) (size : ℕ) (big : mostFrame �
 
   -- no newline: one answer 11, then the end
   pub last-line : (s : List ℕ) → Plain s → 0 < length s
-      → run read s size ≡ entry 0 (reading (refused noNewline size) (length s)) ∷ entry (length s) (reading (refused end size) (length s)) ∷ []
+      → run read s size ≡ entry 0 (reading (refused noNewline size) (length s))
+      ∷ entry (length s) (reading (refused end size) (length s)) ∷ []
   unfolding run runFrom refused
-  last-line (x ∷ s) h l = simp (unended read (x ∷ s) 0 size big (omega arith) (omega arith), at-end read (x ∷ s) (length (x ∷ s)) size big refl)
+  last-line (x ∷ s) h l =
+      simp (
+        unended read (x ∷ s) 0 size big (omega arith) (omega arith),
+        at-end read (x ∷ s) (length (x ∷ s)) size big refl,
+      )
 
   pub no-line : run read [] size ≡ entry 0 (reading (refused end size) 0) ∷ []
   unfolding run runFrom refused

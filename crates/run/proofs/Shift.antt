@@ -42,10 +42,12 @@ module _ (read : Reader) (size : ℕ) (a b : List ℕ) where
   unfolding readAt
   read-shift p = rw (rows-shift p) (by-shift p (firstFailing (placeRows b p size)))
 
-  pub run-shift : (k p : ℕ) → runFrom read (a ++ b) size k (length a + p) ≡ map (shiftEntry (length a)) (runFrom read b size k p)
+  pub run-shift : (k p : ℕ)
+      → runFrom read (a ++ b) size k (length a + p) ≡ map (shiftEntry (length a)) (runFrom read b size k p)
   unfolding runFrom shiftEntry shift
   run-shift zero p = refl
   run-shift (suc k) p =
       rw (read-shift p)
       (ap (λ (l : List Entry). shiftEntry (length a) (entry p (readAt read b p size)) ∷ l)
-      (cond-map (length a) (eqb (readAt read b p size .verdict .number) end) _ (run-shift k (readAt read b p size .next))))
+      (cond-map (length a) (eqb (readAt read b p size .verdict .number) end) _
+      (run-shift k (readAt read b p size .next))))

@@ -40,7 +40,8 @@ pub record Ends (read : Reader) (j : List ℕ) (size : ℕ) : Type 0 where
 pub record Before (read : Reader) (size : ℕ) (A : List ℕ) : Type 0 where
   pub answers : List Entry
   pub places : Every (λ (e : Entry). e .place ≤ length A) answers
-  pub splits : (T : List ℕ) → run read (A ++ newline ∷ T) size ≡ answers ++ map (shiftEntry (length A + 1)) (run read T size)
+  pub splits : (T : List ℕ)
+      → run read (A ++ newline ∷ T) size ≡ answers ++ map (shiftEntry (length A + 1)) (run read T size)
 
 -- two answers to one line that stands behind a bytes and behind b bytes
 pub record Alike (a b : ℕ) (x y : Entry) : Type 0 where

@@ -20,7 +20,8 @@ unfoldable pub runFrom : Reader → (journal : List ℕ) → (size calls place :
 runFrom read j size zero place = []
 runFrom read j size (suc k) place =
     entry place (readAt read j place size)
-    ∷ cond (eqb (readAt read j place size .verdict .number) end) [] (runFrom read j size k (readAt read j place size .next))
+    ∷ cond (eqb (readAt read j place size .verdict .number) end) []
+    (runFrom read j size k (readAt read j place size .next))
 
 unfoldable pub run : Reader → (journal : List ℕ) → (size : ℕ) → List Entry
 run read j size = runFrom read j size (suc (length j)) 0

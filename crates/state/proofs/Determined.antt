@@ -37,11 +37,13 @@ module _ (s : State) where
   both p q = (p .0 ∙ sym (q .0), p .1 ∙ sym (q .1))
 
   pub enc : (b : List ℕ) {r₁ r₂ : State} {o₁ o₂ : List ℕ}
-      → (r₁ ≡ sealing s b) × (o₁ ≡ xorBytes b (stream s)) → (r₂ ≡ sealing s b) × (o₂ ≡ xorBytes b (stream s)) → (r₁ ≡ r₂) × (o₁ ≡ o₂)
+      → (r₁ ≡ sealing s b) × (o₁ ≡ xorBytes b (stream s)) → (r₂ ≡ sealing s b) × (o₂ ≡ xorBytes b (stream s))
+      → (r₁ ≡ r₂) × (o₁ ≡ o₂)
   enc b = both
 
   pub dec : (b : List ℕ) {r₁ r₂ : State} {o₁ o₂ : List ℕ}
-      → (r₁ ≡ opening s b) × (o₁ ≡ xorBytes b (stream s)) → (r₂ ≡ opening s b) × (o₂ ≡ xorBytes b (stream s)) → (r₁ ≡ r₂) × (o₁ ≡ o₂)
+      → (r₁ ≡ opening s b) × (o₁ ≡ xorBytes b (stream s)) → (r₂ ≡ opening s b) × (o₂ ≡ xorBytes b (stream s))
+      → (r₁ ≡ r₂) × (o₁ ≡ o₂)
   dec b = both
 
   pub dec-partial : (b : List ℕ) {r₁ r₂ : State} {o₁ o₂ : List ℕ}

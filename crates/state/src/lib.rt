@@ -151,8 +151,8 @@ impl State {
         self.first(p).last(p)
     }
 
-    // A last part of ciphertext: its plaintext with zeros behind it into `dst`, and the state after it. Of a longer `src`
-    // only the first block counts; of an empty one the block is zeros, so a caller with no part calls nothing.
+    // A last part of ciphertext: its plaintext with zeros behind it into `dst`, and the state after it. Of a longer
+    // `src` only the first block counts; of an empty one the block is zeros, so a caller with no part calls nothing.
     pub fn dec_partial(self, dst: &mut [u8; 32], src: &[u8]) -> State
         ensures { λ r. ⌜ (r ≡ opening self (now (src .entry))) × (now (dst .exit) ≡ padded 32 (xorBytes (now (src .entry)) (stream self))) ⌝ }
     {

@@ -5,8 +5,8 @@ ghost use Prim.Native.Nat.{_≤_};
 ghost use lib.ListN.{length};
 ghost use Rattle.listing.specs.Sizes.{roomForAny};
 
-// Writes piece after piece, up to the end. A write that fails ends it at once. Any answer fits into the buffer, so every
-// piece but the last moves on.
+// Writes piece after piece, up to the end. A write that fails ends it at once. Any answer fits into the buffer, so
+// every piece but the last moves on.
 fn list(input: &[u8], out: &mut [u8])
     requires { ⌜ roomForAny ≤ length (now out) ⌝ }
 {

@@ -41,7 +41,8 @@ returns-2 c =
     let t : tie.Then2 = r .before .before .before in
     let e : tie.Else1 = t .before .before in
     let s : tie.Start = e .before .before .before .before .before in
-    promised _ (big (s .args .input .now) (s .args .place) (good-at e) (omega (arith, t .if2 .taken, length-drop keyLineSize (s .args .input .now)))) (r .refuse2 .ensures)
+    promised _ (big (s .args .input .now) (s .args .place) (good-at e)
+    (omega (arith, t .if2 .taken, length-drop keyLineSize (s .args .input .now)))) (r .refuse2 .ensures)
 
 returns-3 : tie.Need-returns-3
 returns-3 c =
@@ -50,7 +51,8 @@ returns-3 c =
     let s : tie.Start = e .before .before .before .before .before in
     let i = s .args .input .now in
     let n = length-drop keyLineSize i in
-    promised _ (journal i (s .args .place) (good-at e) (omega (arith, t .if2 .left, n)) ∙ beyond (keyOf i) (drop keyLineSize i) (s .args .place) (omega (arith, c .if3 .taken, n)))
+    promised _ (journal i (s .args .place) (good-at e) (omega (arith, t .if2 .left, n))
+    ∙ beyond (keyOf i) (drop keyLineSize i) (s .args .place) (omega (arith, c .if3 .taken, n)))
     (finish (begin [] (s .args .out .now)) (s .args .place))
 
 sub-gather : tie.Need-sub-gather

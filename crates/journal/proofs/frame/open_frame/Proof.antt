@@ -17,17 +17,20 @@ slice-aggregate-decrypt-in-place : tie.Need-slice-aggregate-decrypt-in-place
 unfolding start
 slice-aggregate-decrypt-in-place c =
     let d : tie.After-copy-part = c .before .before .before .before in
-    sym (length-take-le (getD (start d .args .frame .now) nonceSize 0) (d .copy-part .last .0) (omega (arith, d .copy-part .kept .0)))
+    sym (length-take-le (getD (start d .args .frame .now) nonceSize 0) (d .copy-part .last .0)
+    (omega (arith, d .copy-part .kept .0)))
 
 at-answer : (c : tie.After-decrypt-in-place) → let s = start (c .before .before .before .before .before) in
-    Settled (s .args .frame .now) (s .args .count) (s .args .key) (c .decrypt-in-place .result) (c .decrypt-in-place .last .1 .0)
+    Settled (s .args .frame .now) (s .args .count) (s .args .key) (c .decrypt-in-place .result)
+    (c .decrypt-in-place .last .1 .0)
 unfolding start
 at-answer c =
     let n : tie.After-new = c .before .before .before in
     let d : tie.After-copy-part = n .before .before in
     let t : tie.After-sixteen2 = d .before .before .before in
     let p = start d .pre in
-    settle _ _ _ (p .0) (p .1) (p .2) (p .3) (n .new .ensures) (t .before .before .sixteen .ensures) (t .sixteen2 .ensures) (d .copy-part .ensures)
+    settle _ _ _ (p .0) (p .1) (p .2) (p .3) (n .new .ensures) (t .before .before .sixteen .ensures)
+    (t .sixteen2 .ensures) (d .copy-part .ensures)
     (c .decrypt-in-place .ensures) (c .decrypt-in-place .kept .1 .0)
 
 returns : tie.Need-returns

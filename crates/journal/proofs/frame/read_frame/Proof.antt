@@ -25,7 +25,8 @@ open-frame-requires c κs =
 returns-2 : tie.Need-returns-2
 returns-2 c =
     let t : tie.Else1 = c .before .before .before .before in
-    rw (frame-passes _ _ _ (frame-pass _ (sym (t .before .frame-number .ensures) ∙ t .if1 .left))) (c .before .before .open-frame .ensures)
+    rw (frame-passes _ _ _ (frame-pass _ (sym (t .before .frame-number .ensures) ∙ t .if1 .left)))
+    (c .before .before .open-frame .ensures)
 
 pub read-frame-spec : {M : Type 1} → statement M
 read-frame-spec =

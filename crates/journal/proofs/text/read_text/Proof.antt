@@ -1,4 +1,5 @@
--- The digit reader's number is that of the text's first failing row; with none, the frame was read, and its verdict is the line's.
+-- The digit reader's number is that of the text's first failing row; with none, the frame was read, and its verdict is
+-- the line's.
 use Prim.Native.Nat.{_≤_}
 use mathlib.Core.Path.{_≡_, sym, ap, _∙_}
 use native.Mathlib.Omega.{arith}
@@ -25,7 +26,9 @@ number-is : (c : tie.After-read) → number (c .read .result) ≡ firstFailing (
 unfolding start
 number-is c = text-number (c .read .ensures) (c .before .before .if2 .left) (big c)
 
-frame-is : (c : tie.After-count) → let r = c .before .before .before .before in Digits (start r .args .text .now) (r .read .last .1 .0) (c .count .given .0 .0)
+frame-is : (c : tie.After-count)
+    → let r = c .before .before .before .before in
+    Digits (start r .args .text .now) (r .read .last .1 .0) (c .count .given .0 .0)
 unfolding start
 frame-is c =
     let r : tie.After-read = c .before .before .before .before in
@@ -51,7 +54,8 @@ unfolding start
 returns-3 c =
     let d : tie.After-count = c .before .before .before .before .before in
     let r : tie.After-read = d .before .before .before .before in
-    rw (text-passes _ _ _ (big r) (frame-is d .passed), ← frame-is d .front, ← r .read .kept .1 .0) (c .before .before .read-frame .ensures)
+    rw (text-passes _ _ _ (big r) (frame-is d .passed), ← frame-is d .front, ← r .read .kept .1 .0)
+    (c .before .before .read-frame .ensures)
 
 returns-4 : tie.Need-returns-4
 unfolding start

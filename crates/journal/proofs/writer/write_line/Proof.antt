@@ -1,4 +1,5 @@
--- A number that is not 0 is the report's; otherwise the writer's rows have passed, and the digits and the newline are the line.
+-- A number that is not 0 is the report's; otherwise the writer's rows have passed, and the digits and the newline are
+-- the line.
 use Prim.Native.Nat.{ℕ, _+_}
 use mathlib.Core.Path.{_≡_, sym, ap, _∙_}
 use native.Mathlib.Omega.{arith}
@@ -47,7 +48,8 @@ slice-aggregate-write c =
     let f : tie.After-seal-frame = c .before .before in
     let s : tie.Start = start (f .before .before) in
     let g = good (f .before .before) in
-    sym (length-take-le (fixed + length (s .args .«data» .now) + length (s .args .message .now)) (f .seal-frame .last .1 .1 .1 .1 .0)
+    sym (length-take-le (fixed + length (s .args .«data» .now) + length (s .args .message .now))
+    (f .seal-frame .last .1 .1 .1 .1 .0)
     (omega (arith, f .seal-frame .kept .1 .1 .1 .1 .0, g .few, g .most)))
 
 slice-write-line : tie.Need-slice-write-line
@@ -69,7 +71,8 @@ returns-2 c =
 
 -- a buffer with room for the line has room for its digits
 returns-3 : tie.Need-returns-3
-returns-3 c = absurd (let z : _≡_ {A = ℕ} 0 1 = cc (at-report (c .before .before .before .before) .reported) in omega arith)
+returns-3 c =
+    absurd (let z : _≡_ {A = ℕ} 0 1 = cc (at-report (c .before .before .before .before) .reported) in omega arith)
 
 pub write-line-spec : {M : Type 1} → statement M
 write-line-spec =

@@ -13,7 +13,8 @@ use Rattle.listing.proofs.gather.gather.Tie as tie
 
 abbrev Inv-loop : tie.InvT-loop
 Inv-loop journal place key out₀ text₀ at₀ next₀ out text at next =
-    (next ≤ length journal) × (length text ≡ longest) × Gathered (answersFrom key journal place) out₀ out at (answersFrom key journal next)
+    (next ≤ length journal) × (length text ≡ longest)
+    × Gathered (answersFrom key journal place) out₀ out at (answersFrom key journal next)
 
 abbrev μ-loop : tie.MeasureT-loop
 μ-loop journal place key out₀ text₀ at₀ next₀ out text at next = length journal - next

@@ -12,15 +12,22 @@ use Rattle.listing.proofs.text.spell.Statement.{statement}
 use Rattle.listing.proofs.text.spell.Tie as tie
 
 abbrev Inv-loop : tie.InvT-loop
-Inv-loop n digits₀ i₀ rest₀ digits i rest = (length digits ≡ wordDigits) × (i < wordDigits) × (rest < 10 ^ (i + 1)) × (decimal rest ++ drop (i + 1) digits ≡ decimal n)
+Inv-loop n digits₀ i₀ rest₀ digits i rest =
+    (length digits ≡ wordDigits) × (i < wordDigits) × (rest < 10 ^ (i + 1))
+    × (decimal rest ++ drop (i + 1) digits ≡ decimal n)
 
 abbrev μ-loop : tie.MeasureT-loop
 μ-loop n digits₀ i₀ rest₀ digits i rest = rest
 
 loop-holds : tie.Need-loop-holds Inv-loop μ-loop
 loop-holds c =
-    let h : length (c .args .digits .now) ≡ wordDigits = c .pre in
-    (h, omega arith, omega arith, rw (drop-of-length-le (c .args .digits .now) {i = wordDigits} (omega arith)) (append-nil (decimal (c .args .n))))
+    let h : length (c .args .digits .now) ≡ wordDigits = c .pre in (
+      h,
+      omega arith,
+      omega arith,
+      rw (drop-of-length-le (c .args .digits .now) {i = wordDigits} (omega arith))
+          (append-nil (decimal (c .args .n))),
+    )
 
 sub-i : tie.Need-sub-i Inv-loop μ-loop
 sub-i c =

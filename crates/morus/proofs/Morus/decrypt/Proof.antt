@@ -13,12 +13,15 @@ use Rattle.morus.proofs.Morus.decrypt.Tie as tie
 returns : tie.Need-returns
 returns c =
     let t : tie.Then1 = c .before .before .before .before in
-    open-lengths _ _ _ _ _ _ (t .before .into-number .ensures) (t .if1 .taken) (rw sub-zero at (c .before .before .fill .ensures))
+    open-lengths _ _ _ _ _ _ (t .before .into-number .ensures) (t .if1 .taken)
+    (rw sub-zero at (c .before .before .fill .ensures))
 
 abbrev start : tie.Else1 → tie.Start
 start l = l .before .before .before .before .before
 
-passed : (l : tie.Else1) → firstFailing (intoRows (length (start l .args .ad .now)) (length (start l .args .c .now)) (length (start l .args .m .now))) ≡ 0
+passed : (l : tie.Else1)
+    → firstFailing (intoRows (length (start l .args .ad .now)) (length (start l .args .c .now))
+    (length (start l .args .m .now))) ≡ 0
 passed l = sym (l .before .into-number .ensures) ∙ l .if1 .left
 
 returns-2 : tie.Need-returns-2
@@ -27,8 +30,10 @@ returns-2 c =
     let k : tie.After-copy = p .before .before .before .before in
     let l : tie.Else1 = k .before .before in
     let q : tie.Start = start l in
-    let same : length (q .args .m .now) ≡ length (q .args .c .now) = into-fits (q .args .self) (q .args .ad .now) (q .args .c .now) (q .args .m .now) (passed l) .same in
-    opened-into (q .args .self) (q .args .ad .now) (q .args .c .now) (q .args .m .now) (passed l) (q .args .tag) (k .copy .ensures ∙ all-alike (q .args .m .now) (q .args .c .now) same) (p .decrypt-in-place .ensures)
+    let same : length (q .args .m .now) ≡ length (q .args .c .now) =
+    into-fits (q .args .self) (q .args .ad .now) (q .args .c .now) (q .args .m .now) (passed l) .same in
+    opened-into (q .args .self) (q .args .ad .now) (q .args .c .now) (q .args .m .now) (passed l) (q .args .tag)
+    (k .copy .ensures ∙ all-alike (q .args .m .now) (q .args .c .now) same) (p .decrypt-in-place .ensures)
 
 pub decrypt-spec : {M : Type 1} → statement M
 decrypt-spec =

@@ -16,7 +16,9 @@ returns c =
 abbrev start : tie.Else1 → tie.Start
 start l = l .before .before .before .before .before
 
-passed : (l : tie.Else1) → firstFailing (intoRows (length (start l .args .ad .now)) (length (start l .args .m .now)) (length (start l .args .c .now))) ≡ 0
+passed : (l : tie.Else1)
+    → firstFailing (intoRows (length (start l .args .ad .now)) (length (start l .args .m .now))
+    (length (start l .args .c .now))) ≡ 0
 passed l = sym (l .before .into-number .ensures) ∙ l .if1 .left
 
 returns-2 : tie.Need-returns-2
@@ -25,8 +27,10 @@ returns-2 c =
     let k : tie.After-copy = p .before .before .before .before in
     let l : tie.Else1 = k .before .before in
     let q : tie.Start = start l in
-    let same : length (q .args .c .now) ≡ length (q .args .m .now) = into-fits (q .args .self) (q .args .ad .now) (q .args .m .now) (q .args .c .now) (passed l) .same in
-    sealed-into (q .args .self) (q .args .ad .now) (q .args .m .now) (q .args .c .now) (passed l) (k .copy .ensures ∙ all-alike (q .args .c .now) (q .args .m .now) same) (p .encrypt-in-place .ensures)
+    let same : length (q .args .c .now) ≡ length (q .args .m .now) =
+    into-fits (q .args .self) (q .args .ad .now) (q .args .m .now) (q .args .c .now) (passed l) .same in
+    sealed-into (q .args .self) (q .args .ad .now) (q .args .m .now) (q .args .c .now) (passed l)
+    (k .copy .ensures ∙ all-alike (q .args .c .now) (q .args .m .now) same) (p .encrypt-in-place .ensures)
 
 pub encrypt-spec : {M : Type 1} → statement M
 encrypt-spec =

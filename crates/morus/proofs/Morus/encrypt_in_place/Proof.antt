@@ -17,7 +17,8 @@ tag-of-requires c κs =
     let l : tie.Else1 = c .before .before .before .before .before in
     let s : tie.After-short-number = l .before in
     let q : tie.Start = s .before .before .before in
-    let p : Short (length (q .args .ad .now)) (length (q .args .mc .now)) = short-pass _ _ (sym (s .short-number .ensures) ∙ l .if1 .left) in
+    let p : Short (length (q .args .ad .now)) (length (q .args .mc .now)) =
+    short-pass _ _ (sym (s .short-number .ensures) ∙ l .if1 .left) in
     (p .data-short, p .text-short)
 
 returns-2 : tie.Need-returns-2
@@ -26,7 +27,9 @@ returns-2 c =
     let k : tie.After-cover = c .before .before .before in
     let a : tie.After-absorb = k .before .before in
     let s : tie.After-short-number = a .before .before in
-    seal-done _ _ _ _ (sym (s .short-number .ensures) ∙ a .before .if1 .left) refl (rw (c .tag-of .ensures, k .cover .ensures .0, a .absorb .ensures)) (rw (k .cover .ensures .1, a .absorb .ensures))
+    seal-done _ _ _ _ (sym (s .short-number .ensures) ∙ a .before .if1 .left) refl
+    (rw (c .tag-of .ensures, k .cover .ensures .0, a .absorb .ensures))
+    (rw (k .cover .ensures .1, a .absorb .ensures))
 
 pub encrypt-in-place-spec : {M : Type 1} → statement M
 encrypt-in-place-spec =

@@ -26,7 +26,8 @@ loop-again c =
     let u : tie.After-update Inv-loop μ-loop = w .before .before in
     let f : tie.After-from-bytes Inv-loop μ-loop = u .before in
     let b : tie.After-block Inv-loop μ-loop = f .before .before .before in
-    cover-on (b .before .before .before .loop .inv) (omega arith) (omega arith) (b .block .ensures) (rw (u .update .ensures, f .from-bytes .ensures), f .before .before .masked .ensures) (w .store .ensures)
+    cover-on (b .before .before .before .loop .inv) (omega arith) (omega arith) (b .block .ensures)
+    (rw (u .update .ensures, f .from-bytes .ensures), f .before .before .masked .ensures) (w .store .ensures)
 
 returns : tie.Need-returns Inv-loop μ-loop
 returns c =

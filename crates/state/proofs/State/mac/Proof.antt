@@ -43,7 +43,15 @@ returns c =
     let l : tie.At-loop Inv-loop μ-loop = k .before .before in
     let e : 2 * l .loop .i ≡ 10 = omega arith in (
       rw (l .loop .inv .1, e, l .before .xor .ensures, l .before .before .lanes .ensures),
-      rw (c .sixteen .ensures, w .write .ensures, k .key-stream .ensures, l .loop .inv .1, e, l .before .xor .ensures, l .before .before .lanes .ensures),
+      rw (
+        c .sixteen .ensures,
+        w .write .ensures,
+        k .key-stream .ensures,
+        l .loop .inv .1,
+        e,
+        l .before .xor .ensures,
+        l .before .before .lanes .ensures,
+      ),
     )
 
 pub mac-spec : {M : Type 1} → statement M

@@ -23,7 +23,13 @@ returns c =
     let hn : length (q .args .t2) ≡ 16 = search needs in
     let zeros : padded 32 (q .args .t2) ≡ q .args .t2 ++ replicate 16 0 =
     rw hn at (padded-behind 32 (q .args .t2) (omega arith)) in
-    rw (c .start .ensures, c .before .from-bytes2 .ensures, f .from-bytes .ensures, n .block .ensures, k .copy2 .ensures)
+    rw (
+      c .start .ensures,
+      c .before .from-bytes2 .ensures,
+      f .from-bytes .ensures,
+      n .block .ensures,
+      k .copy2 .ensures,
+    )
     (rw (j .copy .ensures, twice (q .args .t1) hk, zeros))
 
 pub new-spec : {M : Type 1} → statement M
