@@ -2,7 +2,7 @@
 
 Builds `rt staticlib export`, then examples/library.c and tests/library/*.c with warnings as errors, bindings/rust, and one
 source file against the Rust crate and against bindings/rust, whose outputs must be the same. The library is x86-64 code: on
-another machine this uses the cross tools that tests/install-cross installs. What is missing is said, and what needs it is
+another machine this uses the cross tools that tools/install-cross installs. What is missing is said, and what needs it is
 left out. Exit status: 0 all that could run passed, 1 something did not.
 """
 import pathlib
@@ -11,9 +11,10 @@ import sys
 import tempfile
 
 sys.dont_write_bytecode = True  # no cache beside the scripts
+LIBRARY = pathlib.Path(__file__).resolve().parent
+sys.path.insert(0, str(LIBRARY.parent.parent / "tools"))
 import cross
 
-LIBRARY = pathlib.Path(__file__).resolve().parent
 WARNINGS = ["-std=c99", "-O2", "-Wall", "-Wextra", "-Wpedantic", "-Wconversion", "-Werror"]
 
 

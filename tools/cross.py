@@ -1,7 +1,7 @@
 """The tools that link and run x86-64 code on this machine: used by tests/gate-library and bench/run.
 
 On x86-64 these are cc and rustc. On any other machine they are Debian's cross compiler, a rustc with a standard library
-for x86-64, and an emulator. tests/install-cross installs them by package name.
+for x86-64, and an emulator. tools/install-cross installs them by package name.
 """
 import os
 import pathlib
@@ -9,10 +9,10 @@ import platform
 import shutil
 import subprocess
 
-ROOT = pathlib.Path(__file__).resolve().parent.parent.parent
+ROOT = pathlib.Path(__file__).resolve().parent.parent
 TARGET = "x86_64-unknown-linux-gnu"
 NATIVE = platform.machine() == "x86_64"
-HINT = ": tests/install-cross installs it"
+HINT = ": tools/install-cross installs it"
 
 
 class Missing(Exception):
