@@ -1,4 +1,5 @@
 //! The Rust side of the measurements for C to call: one function for each thing that is measured.
+#[path = "../../tools/rust/journal.rs"]
 mod journal;
 
 use core::slice::{from_raw_parts, from_raw_parts_mut};

@@ -1,27 +1,18 @@
 //! The Rust side of the whole program: a key line and a journal in, the listing out.
 #[allow(dead_code)] // the writer is not used here
+#[path = "../../tools/rust/journal.rs"]
 mod journal;
 
 use std::io::{Read, Write};
 
 const MOST: usize = 60_000;
 
-fn digit(byte: u8) -> Option<u8> {
-    match byte {
-        b'0'..=b'9' => Some(byte - b'0'),
-        b'a'..=b'f' => Some(byte - b'a' + 10),
-        _ => None,
-    }
-}
-
 fn key_of(input: &[u8]) -> Option<[u8; 16]> {
     if input.len() < 33 || input[32] != b'\n' {
         return None;
     }
     let mut key = [0u8; 16];
-    for i in 0..16 {
-        key[i] = digit(input[2 * i])? << 4 | digit(input[2 * i + 1])?;
-    }
+    journal::decode(&input[..32], &mut key).ok()?;
     Some(key)
 }
 
@@ -33,10 +24,9 @@ fn listing(key: &[u8; 16], text: &[u8], out: &mut Vec<u8>) {
         write!(out, "{} {} {} {}", place, answer.number, answer.n, answer.m).unwrap();
         if answer.number == 0 && answer.m > 0 {
             out.push(b' ');
-            for byte in &frame[17 + answer.n..17 + answer.n + answer.m] {
-                out.push(b"0123456789abcdef"[(byte >> 4) as usize]);
-                out.push(b"0123456789abcdef"[(byte & 15) as usize]);
-            }
+            let (start, at) = (17 + answer.n, out.len());
+            out.resize(at + 2 * answer.m, 0);
+            journal::encode(&frame[start..start + answer.m], &mut out[at..]);
         }
         out.push(b'\n');
         if answer.number == 14 {

@@ -1,5 +1,9 @@
-//! The line journal over the Rust crate: a straightforward writer and reader that do the same work as the crate `journal`.
+//! The line journal over the unchanged Rust crate, written from the specification's table and from nothing of ours:
+//! the comparison judges by it, and the benchmark measures against it. It is plain and fast Rust.
 use morus::Morus;
+
+/// What a refused reading leaves in every byte.
+pub const REFUSED: u8 = 0xaa;
 
 const DIGITS: &[u8; 16] = b"0123456789abcdef";
 
@@ -42,10 +46,7 @@ pub fn write_line(
     frame[start..end].copy_from_slice(message);
     let tag = Morus::new(nonce, key).encrypt_in_place(&mut frame[start..end], data);
     frame[end..count].copy_from_slice(&tag);
-    for (digits, byte) in line.chunks_exact_mut(2).zip(&frame[..count]) {
-        digits[0] = DIGITS[(byte >> 4) as usize];
-        digits[1] = DIGITS[(byte & 15) as usize];
-    }
+    encode(&frame[..count], line);
     line[2 * count] = b'\n';
     Line {
         number: 0,
@@ -53,7 +54,15 @@ pub fn write_line(
     }
 }
 
-fn digit(byte: u8) -> Option<u8> {
+/// Two digits for each byte, at the front of `text`, which has room for them.
+pub fn encode(bytes: &[u8], text: &mut [u8]) {
+    for (digits, byte) in text.chunks_exact_mut(2).zip(bytes) {
+        digits[0] = DIGITS[(byte >> 4) as usize];
+        digits[1] = DIGITS[(byte & 15) as usize];
+    }
+}
+
+pub fn digit(byte: u8) -> Option<u8> {
     match byte {
         b'0'..=b'9' => Some(byte - b'0'),
         b'a'..=b'f' => Some(byte - b'a' + 10),
@@ -61,18 +70,24 @@ fn digit(byte: u8) -> Option<u8> {
     }
 }
 
-/// The frame's bytes at the front of the buffer, and how many; or the number of what is wrong with the digits.
-fn decode(text: &[u8], frame: &mut [u8]) -> Result<usize, u8> {
-    if text.len() > 706 {
-        return Err(4);
-    }
-    for (byte, digits) in frame.iter_mut().zip(text.chunks_exact(2)) {
+/// The bytes that the text says, at the front of `bytes`, which has room for them, and how many; or the number of what
+/// is wrong with the digits.
+pub fn decode(text: &[u8], bytes: &mut [u8]) -> Result<usize, u8> {
+    for (byte, digits) in bytes.iter_mut().zip(text.chunks_exact(2)) {
         *byte = digit(digits[0]).ok_or(5)? << 4 | digit(digits[1]).ok_or(5)?;
     }
     if let [last] = text.chunks_exact(2).remainder() {
         return Err(if digit(*last).is_some() { 6 } else { 5 });
     }
     Ok(text.len() / 2)
+}
+
+/// The frame's bytes at the buffer's front, and how many; or the number of what is wrong with the text.
+fn frame_of(text: &[u8], frame: &mut [u8]) -> Result<usize, u8> {
+    if text.len() > 706 {
+        return Err(4);
+    }
+    decode(text, frame)
 }
 
 /// Opens the frame of `count` bytes at the buffer's front where it stands: n and m, or the number of what is wrong.
@@ -121,7 +136,7 @@ fn read(
         None => (journal.len(), Err(11)),
         Some(length) => {
             let end = place + length;
-            let opened = decode(&journal[place..end], frame)
+            let opened = frame_of(&journal[place..end], frame)
                 .and_then(|count| open(count, key, frame).map(|(n, m)| (count, n, m)));
             (end + 1, opened)
         }
@@ -131,7 +146,7 @@ fn read(
 pub fn read_line(journal: &[u8], place: usize, key: &[u8; 16], frame: &mut [u8]) -> Answer {
     match read(journal, place, key, frame) {
         (next, Ok((count, n, m))) => {
-            frame[count..].fill(0xaa);
+            frame[count..].fill(REFUSED);
             Answer {
                 number: 0,
                 next,
@@ -140,7 +155,7 @@ pub fn read_line(journal: &[u8], place: usize, key: &[u8; 16], frame: &mut [u8])
             }
         }
         (next, Err(number)) => {
-            frame.fill(0xaa);
+            frame.fill(REFUSED);
             Answer {
                 number,
                 next,
