@@ -1,6 +1,6 @@
-"""The tools that link and run x86-64 code on this machine: used by tests/gate-library and bench/run.
+"""The tools that link and run x86-64 code on this machine, and the Rust crate's source: used by the tests and bench/run.
 
-On x86-64 these are cc and rustc. On any other machine they are Debian's cross compiler, a rustc with a standard library
+On x86-64 the tools are cc and rustc. On any other machine they are Debian's cross compiler, a rustc with a standard library
 for x86-64, and an emulator. tools/install-cross installs them by package name.
 """
 import os
@@ -8,11 +8,13 @@ import pathlib
 import platform
 import shutil
 import subprocess
+import sys
 
 ROOT = pathlib.Path(__file__).resolve().parent.parent
 TARGET = "x86_64-unknown-linux-gnu"
 NATIVE = platform.machine() == "x86_64"
 HINT = ": tools/install-cross installs it"
+BESIDE = "../shared/docs/src/src/lib.rs"
 
 
 class Missing(Exception):
@@ -27,25 +29,36 @@ def c_compiler():
     return found
 
 
-def rustc():
-    """The rustc that RUSTC names, or the first one that has a standard library for x86-64."""
+def rustc(target=TARGET):
+    """The rustc that RUSTC names, or the first one that has a standard library for the target (`*`: for any)."""
     names = [os.environ["RUSTC"]] if "RUSTC" in os.environ else ["rustc", "/usr/bin/rustc"]
     for name in names:
         found = shutil.which(name)
         if not found:
             continue
         root = subprocess.run([found, "--print", "sysroot"], stdout=subprocess.PIPE, text=True).stdout.strip()
-        if list(pathlib.Path(root, "lib", "rustlib", TARGET, "lib").glob("libstd-*.rlib")):
+        if list(pathlib.Path(root, "lib", "rustlib").glob(f"{target}/lib/libstd-*.rlib")):
             return found
-    raise Missing(f"no rustc with a standard library for {TARGET} is installed{HINT}")
+    asked = f"RUSTC names {names[0]}: " if "RUSTC" in os.environ else ""
+    wanted = "its standard library" if target == "*" else f"a standard library for {target}"
+    raise Missing(f"{asked}no rustc with {wanted} is installed{HINT}")
 
 
 def rust_source():
-    """The Rust crate's lib.rs, as it stands."""
-    source = pathlib.Path(os.environ.get("MORUS_RUST", ROOT / "../shared/docs/src/src/lib.rs"))
-    if not source.is_file():
-        raise Missing(f"the Rust source {source} is missing: set MORUS_RUST to its lib.rs")
-    return source
+    """The Rust crate's lib.rs, as it stands: the file that MORUS_RUST names, or the first found. It is never copied."""
+    named = os.environ.get("MORUS_RUST")
+    if named:
+        if not os.path.isfile(named):
+            print(f"MORUS_RUST names {named}, and there is no such file", file=sys.stderr)
+            sys.exit(2)
+        return pathlib.Path(named)
+    cargo = pathlib.Path(os.environ.get("CARGO_HOME") or os.path.expanduser("~/.cargo"))
+    inside = "registry/src/*/morus-0.1.5/src/lib.rs"
+    for source in (ROOT / BESIDE, *sorted(cargo.glob(inside))):
+        if source.is_file():
+            return source
+    raise Missing("the source of the Rust crate morus 0.1.5 is not here: MORUS_RUST, which can name its lib.rs, is not set,"
+                  f" and there is neither {BESIDE} seen from the repository's root nor {inside} in {cargo}")
 
 
 def kit():
