@@ -1,7 +1,7 @@
 """The tools that link and run x86-64 code on this machine, and the Rust crate's source: used by the tests and bench/run.
 
 On x86-64 the tools are cc and rustc. On any other machine they are Debian's cross compiler, a rustc with a standard library
-for x86-64, and an emulator. tools/install-cross installs them by package name.
+for x86-64, and an emulator. tools/install-cross installs them by package name. Run by itself this file says what is missing.
 """
 import os
 import pathlib
@@ -113,3 +113,15 @@ def rust(out, source, *words, kind="rlib", name=None):
 def rust_crate(room):
     """The Rust crate, unchanged."""
     return rust(room / "libmorus.rlib", rust_source(), "--cap-lints", "allow", "--cfg", 'feature="std"', name="morus")
+
+
+def say_missing():
+    for find in (c_compiler, rustc, emulator, loader, rust_source):
+        try:
+            find()
+        except Missing as what:
+            print(what)
+
+
+if __name__ == "__main__":
+    say_missing()
