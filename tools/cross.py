@@ -1,7 +1,8 @@
-"""The tools that link and run x86-64 code on this machine, and the Rust crate's source: used by the tests and bench/run.
+"""The tools that link and run x86-64 code on this machine, and the Rust crate's source, for the tests and bench/run.
 
-On x86-64 the tools are cc and rustc. On any other machine they are Debian's cross compiler, a rustc with a standard library
-for x86-64, and an emulator. tools/install-cross installs them by package name. Run by itself this file says what is missing.
+On x86-64 the tools are cc and rustc. On any other machine they are Debian's cross compiler, a rustc with a standard
+library for x86-64, and an emulator. tools/install-cross installs them by package name. Run by itself this file says
+what is missing.
 """
 import os
 import pathlib
@@ -45,7 +46,7 @@ def rustc(target=TARGET):
 
 
 def rust_source():
-    """The Rust crate's lib.rs, as it stands: the file that MORUS_RUST names, or the first found. It is never copied."""
+    """The Rust crate's lib.rs, as it stands: the file that MORUS_RUST names, or the first found; never a copy."""
     named = os.environ.get("MORUS_RUST")
     if named:
         if not os.path.isfile(named):
@@ -57,8 +58,8 @@ def rust_source():
     for source in (ROOT / BESIDE, *sorted(cargo.glob(inside))):
         if source.is_file():
             return source
-    raise Missing("the source of the Rust crate morus 0.1.5 is not here: MORUS_RUST, which can name its lib.rs, is not set,"
-                  f" and there is neither {BESIDE} seen from the repository's root nor {inside} in {cargo}")
+    raise Missing("the source of the Rust crate morus 0.1.5 is not here: MORUS_RUST, which can name its lib.rs, is not"
+                  f" set, and there is neither {BESIDE} seen from the repository's root nor {inside} in {cargo}")
 
 
 def kit():
@@ -80,8 +81,8 @@ def emulator():
 
 
 def loader():
-    """The words before a dynamically linked x86-64 program: on another machine the emulator of Debian's qemu-user (the kit's does
-    not run a Rust program) with the kit's loader and C library."""
+    """The words before a dynamically linked x86-64 program: on another machine the emulator of Debian's qemu-user (the
+    kit's does not run a Rust program) with the kit's loader and C library."""
     if NATIVE:
         return []
     found = shutil.which("qemu-x86_64")
@@ -93,7 +94,8 @@ def loader():
 
 def library():
     """The archive of the crate `export`, proved and built anew."""
-    run = subprocess.run(["rt", "staticlib", "export"], cwd=ROOT, stdout=subprocess.PIPE, stderr=subprocess.STDOUT, text=True)
+    output = {"stdout": subprocess.PIPE, "stderr": subprocess.STDOUT, "text": True}
+    run = subprocess.run(["rt", "staticlib", "export"], cwd=ROOT, **output)
     if run.returncode != 0:
         raise SystemExit(run.stdout[-3000:] + "\nrt staticlib export: not built")
     return ROOT / "target" / "staticlib" / "libexport.a"
@@ -102,7 +104,8 @@ def library():
 def rust(out, source, *words, kind="rlib", name=None):
     """Compiles a Rust file for the x86-64 baseline."""
     linker = [] if NATIVE else ["-C", f"linker={c_compiler()}"]
-    command = [rustc(), "--edition", "2021", "--target", TARGET, "-C", "opt-level=3", "-C", "panic=abort", "-C", "target-cpu=x86-64"]
+    command = [rustc(), "--edition", "2021", "--target", TARGET]
+    command += ["-C", "opt-level=3", "-C", "panic=abort", "-C", "target-cpu=x86-64"]
     command += linker + ["--crate-type", kind, "-o", out, source, *words]
     if name:
         command += ["--crate-name", name]

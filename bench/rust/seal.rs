@@ -37,8 +37,8 @@ fn bytes_of(word: &[u8], bytes: &mut [u8], too_long: &'static str) -> Result<usi
     }
 }
 
-/// The length of the sealed line, at the front of `out`, or the word that is wrong and why. The third word is all behind the
-/// second space, so where there are more it says no bytes.
+/// The length of the sealed line, at the front of `out`, or the word that is wrong and why. The third word is all that
+/// stands behind the second space, so where there are more it says no bytes.
 fn seal(key: &[u8; 16], line: &[u8], out: &mut [u8]) -> Result<usize, String> {
     let mut words = line.splitn(3, |&byte| byte == b' ');
     let mut word = |name: &str, bytes: &mut [u8], too_long| {

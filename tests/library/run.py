@@ -1,9 +1,9 @@
 """The library from C and from Rust: links, runs and compares. tests/gate-library runs this.
 
-Builds `rt staticlib export`, then examples/library.c and tests/library/*.c with warnings as errors, bindings/rust, and one
-source file against the Rust crate and against bindings/rust, whose outputs must be the same. The library is x86-64 code: on
-another machine this uses the cross tools that tools/install-cross installs. What is missing is said, and what needs it is
-left out. Exit status: 0 all that could run passed, 1 something did not.
+Builds `rt staticlib export`, then examples/library.c and tests/library/*.c with warnings as errors, bindings/rust, and
+one source file against the Rust crate and against bindings/rust, whose outputs must be the same. The library is x86-64
+code: on another machine this uses the cross tools that tools/install-cross installs. What is missing is said, and what
+needs it is left out. Exit status: 0 all that could run passed, 1 something did not.
 """
 import pathlib
 import subprocess
@@ -51,8 +51,10 @@ def rust_program(room, name, source, *words):
 
 def from_rust(room, archive):
     where = ["-L", f"native={archive.parent}", "--cfg", 'feature="std"', "-D", "warnings"]
-    ours = cross.rust(room / "libvotrikany.rlib", cross.ROOT / "bindings" / "rust" / "src" / "lib.rs", *where, name="votrikany")
-    print("gate-library: " + rust_program(room, "journal", LIBRARY / "journal.rs", "--extern", f"votrikany={ours}").decode().strip())
+    source = cross.ROOT / "bindings" / "rust" / "src" / "lib.rs"
+    ours = cross.rust(room / "libvotrikany.rlib", source, *where, name="votrikany")
+    said = rust_program(room, "journal", LIBRARY / "journal.rs", "--extern", f"votrikany={ours}")
+    print("gate-library: " + said.decode().strip())
     return ours
 
 
@@ -64,7 +66,7 @@ def drop_in(room, ours):
     if got != wanted or not wanted:
         failed("tests/library/drop_in.rs writes something else against bindings/rust than against the Rust crate")
     lines = wanted.count(b"\n")
-    print(f"gate-library: tests/library/drop_in.rs writes the same {lines} lines against bindings/rust as against the Rust crate")
+    print(f"gate-library: drop_in.rs writes the same {lines} lines against bindings/rust as against the Rust crate")
 
 
 def part(name, work, *words):
