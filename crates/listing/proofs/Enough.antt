@@ -8,8 +8,9 @@ use lib.ListN.{length, take, drop, length-drop}
 use lib.Seq.{take-all, take-take, getD-take, length-take-le}
 use lib.Dec.{leb}
 use borrow.Author.Tests.{le-leb, lt-leb, leb-true, leb-false}
-use Rattle.listing.specs.Sizes.{keyDigits, keyLineSize, mostJournal, enoughInput}
-use Rattle.listing.specs.KeyLine.{goodKey}
+use Rattle.keyline.specs.Sizes.{keyDigits, keyLineSize}
+use Rattle.listing.specs.Sizes.{mostJournal, enoughInput}
+use Rattle.keyline.specs.KeyLine.{goodKey}
 use Rattle.listing.specs.Listing.{listing}
 
 module _ (input : List ℕ) (n : ℕ) (h : enoughInput ≤ n) where

@@ -16,8 +16,8 @@ use Rattle.listing.specs.declared.report.Piece.{Piece}
 use Rattle.answers.specs.Sizes.{mostFrame}
 use Rattle.listing.specs.Sizes.{mostJournal}
 use Rattle.listing.specs.Text.{answerText}
-use Rattle.listing.specs.KeyLine.{goodKey, keyOf, journalOf}
-use Rattle.listing.specs.Listing.{answers, listing, badKey, tooBig}
+use Rattle.keyline.specs.KeyLine.{goodKey, keyOf}
+use Rattle.listing.specs.Listing.{journalOf, answers, listing, badKey, tooBig}
 use Rattle.listing.specs.Pieces.{isEnd, Part, part, alone, answersFrom, parts, front, rest, firstPlace, none}
 use Rattle.listing.specs.Promise.{PieceFilled}
 use Rattle.listing.specs.Claims.{Written, last, more}

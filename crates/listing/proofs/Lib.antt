@@ -2,7 +2,6 @@ pub mod Put
 pub mod Decimal
 pub mod Digits
 pub mod Hex
-pub mod KeyLine
 pub mod Shown
 pub mod Spaced
 pub mod Lengths

@@ -1,7 +1,6 @@
 pub mod Sizes
 pub mod Decimal
 pub mod Text
-pub mod KeyLine
 pub mod Listing
 pub mod Pieces
 pub mod Put

@@ -10,7 +10,11 @@ use Rattle.journal.specs.Reader.{run}
 use Rattle.answers.specs.Sizes.{mostFrame}
 use Rattle.listing.specs.Sizes.{mostJournal}
 use Rattle.listing.specs.Text.{answerText}
-use Rattle.listing.specs.KeyLine.{goodKey, keyOf, journalOf}
+use Rattle.keyline.specs.KeyLine.{goodKey, keyOf, behindKey}
+
+-- the journal is what follows the key line
+abbrev pub journalOf : (input : List ℕ) → List ℕ
+journalOf input = behindKey input
 
 -- `bad key` and a newline
 abbrev pub badKey : List ℕ

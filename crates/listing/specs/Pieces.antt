@@ -11,8 +11,8 @@ use Rattle.answers.specs.Numbers.{end}
 use Rattle.answers.specs.Sizes.{mostFrame}
 use Rattle.listing.specs.Sizes.{mostJournal}
 use Rattle.listing.specs.Text.{answerText}
-use Rattle.listing.specs.KeyLine.{goodKey, keyOf, journalOf}
-use Rattle.listing.specs.Listing.{badKey, tooBig}
+use Rattle.keyline.specs.KeyLine.{goodKey, keyOf}
+use Rattle.listing.specs.Listing.{journalOf, badKey, tooBig}
 use Rattle.listing.specs.declared.report.Piece.{Piece}
 
 -- the answer behind which there is none

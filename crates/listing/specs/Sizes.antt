@@ -3,18 +3,9 @@ use Prim.Native.Nat.{ℕ, _+_, _*_}
 use mathlib.Core.List.{List, [], _∷_}
 use lib.ListN.{length}
 use Rattle.answers.specs.Sizes.{mostMessage}
+use Rattle.keyline.specs.Sizes.{keyLineSize}
 
 -- ---- the input's
-
-abbrev pub keySize : ℕ
-keySize = 16
-
-abbrev pub keyDigits : ℕ
-keyDigits = 2 * keySize
-
--- the digits and a newline
-abbrev pub keyLineSize : ℕ
-keyLineSize = keyDigits + 1
 
 abbrev pub mostJournal : ℕ
 mostJournal = 60000

@@ -1,12 +1,12 @@
 // The text of a listing, by pieces.
 mod gather;
-mod key;
 pub mod report;
 mod sizes;
 mod text;
 
 use gather::gather;
-use key::key_line;
+use keyline::key_line;
+use keyline::sizes::KEY_LINE;
 pub use report::Piece;
 use text::put_bytes;
 ghost use Rattle.listing.specs.Pieces.{alone};
@@ -40,7 +40,7 @@ pub fn piece(input: &[u8], place: usize, out: &mut [u8]) -> Piece
         return refuse(b"bad key\n", place, out);
     }
     let key = line.key;
-    let size = input.len() - sizes::KEY_LINE;
+    let size = input.len() - KEY_LINE;
     if sizes::MOST_JOURNAL < size {
         return refuse(b"too big\n", place, out);
     }
@@ -51,5 +51,5 @@ pub fn piece(input: &[u8], place: usize, out: &mut [u8]) -> Piece
             end: true,
         };
     }
-    gather(&input[sizes::KEY_LINE..], place, key, out)
+    gather(&input[KEY_LINE..], place, key, out)
 }

@@ -1,13 +1,6 @@
 // The listing's own sizes, each once.
 use answers::sizes::MOST_MESSAGE;
 
-pub const KEY: usize = 16;
-
-pub const KEY_DIGITS: usize = 2 * KEY;
-
-// The digits and a newline.
-pub const KEY_LINE: usize = KEY_DIGITS + 1;
-
 pub const MOST_JOURNAL: usize = 60000;
 
 // No number of the machine has more.

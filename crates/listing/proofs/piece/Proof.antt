@@ -7,11 +7,12 @@ use mathlib.Core.Bool.{true, false}
 use native.Mathlib.Omega.{arith}
 use lib.ListN.{length, drop, length-drop}
 use borrow.Author.Tests.{not-true, not-false}
-use Rattle.listing.specs.declared.key.KeyLine.{KeyLine}
-use Rattle.listing.specs.Sizes.{keyLineSize}
-use Rattle.listing.specs.KeyLine.{goodKey, keyOf}
+use Rattle.keyline.specs.declared.KeyLine.{KeyLine}
+use Rattle.keyline.specs.Sizes.{keyLineSize}
+use Rattle.keyline.specs.KeyLine.{goodKey, keyOf}
+use Rattle.keyline.proofs.Laws.{line-good, line-key, line-long}
 use Rattle.listing.proofs.Gathered.{begin, finish}
-use Rattle.listing.proofs.Parts.{line-good, line-key, line-long, bad, big, journal, beyond, promised}
+use Rattle.listing.proofs.Parts.{bad, big, journal, beyond, promised}
 use borrow.Author.Needs.{needs}
 use Rattle.listing.proofs.piece.Statement.{statement}
 use Rattle.listing.proofs.piece.Tie as tie

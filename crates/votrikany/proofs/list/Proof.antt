@@ -4,7 +4,7 @@ use mathlib.Core.Path.{_≡_, refl, sym, _∙_}
 use native.Mathlib.Omega.{arith}
 use lib.ListN.{length}
 use lib.Seq.{length-take-le}
-use Rattle.listing.specs.KeyLine.{journalOf}
+use Rattle.listing.specs.Listing.{journalOf}
 use Rattle.listing.proofs.Progress.{forward, within}
 use borrow.Author.Needs.{needs}
 use Rattle.votrikany.proofs.list.Statement.{statement}

@@ -1,4 +1,4 @@
--- The key line: 32 lowercase digits and a newline. The journal is what follows it.
+-- The key line: 32 lowercase digits and a newline. What follows it is the program's.
 use Prim.Native.Nat.{ℕ}
 use mathlib.Core.Bool.{Bool, true, false, cond, _&&_}
 use mathlib.Core.List.{List}
@@ -6,8 +6,8 @@ use lib.ListN.{length, getD, take, drop, replicate}
 use lib.Dec.{leb, eqb}
 use Rattle.hex.specs.Hex.{allDigits, unhex}
 use Rattle.run.specs.Line.{newline}
-use Rattle.listing.specs.Sizes.{keySize, keyDigits, keyLineSize}
-use Rattle.listing.specs.declared.key.KeyLine.{KeyLine}
+use Rattle.keyline.specs.Sizes.{keySize, keyDigits, keyLineSize}
+use Rattle.keyline.specs.declared.KeyLine.{KeyLine}
 
 unfoldable pub goodKey : (input : List ℕ) → Bool
 goodKey input =
@@ -17,8 +17,9 @@ goodKey input =
 abbrev pub keyOf : (input : List ℕ) → List ℕ
 keyOf input = unhex (take keyDigits input)
 
-abbrev pub journalOf : (input : List ℕ) → List ℕ
-journalOf input = drop keyLineSize input
+-- what stands behind the line
+abbrev pub behindKey : (input : List ℕ) → List ℕ
+behindKey input = drop keyLineSize input
 
 -- what reading the line gives; the key of a bad one is zeros, and is not used
 unfoldable pub keyLine : (input : List ℕ) → KeyLine

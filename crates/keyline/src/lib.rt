@@ -1,16 +1,19 @@
-// The key line at the front of the input.
-use crate::sizes;
+// The key line at the front of an input: the key's digits, and a newline.
+pub mod sizes;
+
 use hex::Read;
 use morus::Key;
 ghost use mathlib.Core.Path.{_≡_};
-ghost use Rattle.listing.specs.KeyLine.{keyLine};
+ghost use Rattle.keyline.specs.KeyLine.{keyLine};
 
-pub(crate) struct KeyLine {
+// Whether the input begins with a key line, and the key; zeros where it does not.
+pub struct KeyLine {
     pub good: bool,
     pub key: Key,
 }
 
-pub(crate) fn key_line(input: &[u8]) -> KeyLine
+// What stands behind the line is not looked at.
+pub fn key_line(input: &[u8]) -> KeyLine
     ensures { λ r. ⌜ r ≡ keyLine (now (input .entry)) ⌝ }
 {
     let mut key = [0u8; sizes::KEY];
