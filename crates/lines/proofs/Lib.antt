@@ -1,3 +1,6 @@
 pub mod Moves
 pub mod Spaces
 pub mod Digits
+pub mod Parted
+pub mod Says
+pub mod Determined

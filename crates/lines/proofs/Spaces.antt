@@ -1,14 +1,13 @@
 -- Spaces counted byte by byte, and what stands behind the first one at or after a place.
-use Prim.Native.Nat.{ℕ, zero, suc, _+_, _-_, _≤_, _<_}
-use mathlib.Core.Path.{_≡_, sym, _∙_}
+use Prim.Native.Nat.{ℕ, suc, _+_, _-_, _≤_, _<_}
+use mathlib.Core.Path.{_≡_, refl, sym, _∙_}
 use mathlib.Core.Bool.{Bool, true, false, cond}
 use mathlib.Core.List.{List, [], _∷_}
 use native.Mathlib.Omega.{arith}
-use native.Mathlib.Numerals.{add-one}
 use native.Mathlib.Nat.{add-sub-cancel-left}
 use lib.Dec.{eqb}
-use lib.ListN.{length, getD, take, drop, length-drop, drop-of-length-le}
-use lib.Seq.{drop-cons, drop-drop}
+use lib.ListN.{length, drop, length-drop, drop-of-length-le}
+use lib.Seq.{drop-drop}
 use Rattle.buffers.specs.Find.{indexOf, firstFrom}
 use Rattle.buffers.proofs.Finds.{first-within}
 use Rattle.lines.specs.Window.{between}
@@ -16,12 +15,25 @@ use Rattle.lines.specs.Words.{space, spacesIn, behindSpace, wordOf}
 
 -- ---- counting
 
-pub one-more : (line : List ℕ) (i n : ℕ) → i < length line
-    → n + cond (eqb (getD line i 0) space) 1 0 + spacesIn (drop (i + 1) line) ≡ n + spacesIn (drop i line)
-one-more line i n h = rw (add-one, drop-cons line i 0 h) (omega arith)
+-- a first space, and those behind it
+some-space : (l : List ℕ) → indexOf space l < length l → spacesIn l ≡ suc (spacesIn (behindSpace l))
+some-space [] h = absurd (omega arith)
+some-space (c ∷ cs) h = go (eqb c space) refl h (some-space cs)
+  where
+    go : (b : Bool) → eqb c space ≡ b → cond b 0 (suc (indexOf space cs)) < suc (length cs)
+        → (indexOf space cs < length cs → spacesIn cs ≡ suc (spacesIn (behindSpace cs)))
+        → spacesIn (c ∷ cs) ≡ suc (spacesIn (behindSpace (c ∷ cs)))
+    go true e h ih = rw e (omega arith)
+    go false e h ih = rw e (omega (arith, ih (omega arith)))
 
-pub no-more : (line : List ℕ) (i : ℕ) → length line ≤ i → spacesIn (drop i line) ≡ 0
-no-more line i h = rw (drop-of-length-le line {i = i} h)
+no-space : (l : List ℕ) → length l ≤ indexOf space l → spacesIn l ≡ 0
+no-space [] h = refl
+no-space (c ∷ cs) h = go (eqb c space) refl h (no-space cs)
+  where
+    go : (b : Bool) → eqb c space ≡ b → suc (length cs) ≤ cond b 0 (suc (indexOf space cs))
+        → (length cs ≤ indexOf space cs → spacesIn cs ≡ 0) → spacesIn (c ∷ cs) ≡ 0
+    go true e h ih = absurd (omega arith)
+    go false e h ih = rw e (omega (arith, ih (omega arith)))
 
 -- ---- a place
 
@@ -37,6 +49,9 @@ module _ (line : List ℕ) (at : ℕ) (h : at ≤ length line) where
   found : firstFrom space line at ≡ at + indexOf space (drop at line)
   found = first-within space line at h
 
+  pub found-from : at ≤ firstFrom space line at
+  found-from = omega (arith, found)
+
   pub found-within : firstFrom space line at ≤ length line
   found-within = omega (arith, found, index-within space (drop at line), length-drop at line)
 
@@ -49,6 +64,14 @@ module _ (line : List ℕ) (at : ℕ) (h : at ≤ length line) where
   behind-none {end} e l =
       drop-of-length-le line {i = end} l
       ∙ sym (sym (behind-space e) ∙ drop-of-length-le line {i = end + 1} (omega arith))
+
+  -- the spaces from a place on: none where the search finds none, otherwise one and those behind it
+  pub no-more : {end : ℕ} → end ≡ firstFrom space line at → length line ≤ end → spacesIn (drop at line) ≡ 0
+  no-more e l = no-space (drop at line) (omega (arith, found, length-drop at line))
+
+  pub one-more : {end : ℕ} → end ≡ firstFrom space line at → end < length line
+      → spacesIn (drop at line) ≡ suc (spacesIn (drop (end + 1) line))
+  one-more e l = rw (behind-space e) (some-space (drop at line) (omega (arith, found, length-drop at line)))
 
   -- the word that begins there
   pub this-word : between line at (firstFrom space line at) ≡ wordOf 0 (drop at line)

@@ -3,30 +3,23 @@ use crate::parts::part;
 use buffers::find;
 ghost use Prim.Native.Nat.{_≤_};
 ghost use mathlib.Core.Path.{_≡_};
-ghost use mathlib.Core.Bool.{cond};
-ghost use lib.Dec.{eqb};
 ghost use lib.ListN.{length, drop};
 ghost use Rattle.lines.specs.Words.{countOf, behindSpace, wordOf};
-ghost use Rattle.lines.specs.Words.{space as Words·space};
 
-// 1 for a space, 0 for any other byte.
-fn space(c: u8) -> usize
-    ensures { λ r. ⌜ (r ≡ cond (eqb c Words·space) 1 0) × (r ≤ 1) ⌝ }
-{
-    if c == b' ' { 1 } else { 0 }
-}
-
-// How many words there are: one more than spaces.
+// How many words there are: one more than spaces. The search is quicker than a look at each byte.
 pub fn count(line: &[u8]) -> usize
     ensures { λ r. ⌜ r ≡ countOf (now (line .entry)) ⌝ }
 {
-    let mut spaces: usize = 0;
-    let mut i = 0;
-    while i < line.len() {
-        spaces += space(line[i]);
-        i += 1;
+    let mut words: usize = 1;
+    let mut at = 0;
+    loop {
+        let end = find(line, at, b' ');
+        if line.len() <= end {
+            return words;
+        }
+        words += 1;
+        at = end + 1;
     }
-    spaces + 1
 }
 
 // One past the first space at or after `at`, or the end where there is none.

@@ -5,7 +5,7 @@ use mathlib.Core.Bool.{Bool, true, false, cond}
 use mathlib.Core.List.{List}
 use lib.ListN.{length}
 use lib.Dec.{eqb}
-use borrow.Author.Tests.{eq-eqb, ne-eqb}
+use borrow.Author.Tests.{ne-eqb}
 use Rattle.answers.specs.Numbers.{notDigit, odd}
 use Rattle.answers.specs.Rows.{firstFailing}
 use Rattle.hex.specs.Promise.{noRoom}

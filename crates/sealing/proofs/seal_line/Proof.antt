@@ -4,7 +4,6 @@ use mathlib.Core.Path.{_≡_, sym, ap, _∙_}
 use native.Mathlib.Omega.{arith}
 use lib.ListN.{length, replicate}
 use lib.Seq.{length-take-le}
-use Rattle.answers.specs.Numbers.{dataTooLong, messageTooLong}
 use Rattle.answers.specs.Sizes.{mostData, mostMessage}
 use Rattle.lines.specs.Words.{countOf, wordOf}
 use Rattle.lines.specs.Said.{bytesIn, SaidBytes, sixteenOf}
@@ -57,10 +56,10 @@ message-as : (b : tie.After-bytes-of2)
 message-as b = rw (b .before .before .word3 .ensures) at (b .bytes-of2 .ensures)
 
 data-at : (e : tie.Else3) → dataNumber (start (one (two e)) .args .line .now) ≡ 0
-data-at e = part-fine (data-as (e .before .before .before)) dataTooLong (e .if3 .left)
+data-at e = part-fine (data-as (e .before .before .before)) _ (e .if3 .left)
 
 message-at : (e : tie.Else4) → messageNumber (start (one (two (three e))) .args .line .now) ≡ 0
-message-at e = part-fine (message-as (e .before .before .before)) messageTooLong (e .if4 .left)
+message-at e = part-fine (message-as (e .before .before .before)) _ (e .if4 .left)
 
 -- ---- the bytes that are sealed
 
@@ -102,8 +101,8 @@ returns-3 c =
     let b : tie.After-bytes-of = t .before .before .before in
     let e : tie.Else2 = b .before .before .before in
     rw (c .refused3 .ensures) (data-wrong _ _ _ (count-at (one e)) (nonce-at e)
-    (o .or-too-long .ensures ∙ part-wrong (data-as b) dataTooLong)
-    (still-wrong dataTooLong (λ x. omega arith) (t .if3 .taken) (o .or-too-long .ensures)))
+    (o .or-too-long .ensures ∙ part-wrong (data-as b) _)
+    (still-wrong _ (λ x. omega arith) (t .if3 .taken) (o .or-too-long .ensures)))
 
 returns-4 : tie.Need-returns-4
 returns-4 c =
@@ -112,8 +111,8 @@ returns-4 c =
     let b : tie.After-bytes-of2 = t .before .before .before in
     let e : tie.Else3 = b .before .before .before in
     rw (c .refused4 .ensures) (message-wrong _ _ _ (count-at (one (two e))) (nonce-at (two e)) (data-at e)
-    (o .or-too-long2 .ensures ∙ part-wrong (message-as b) messageTooLong)
-    (still-wrong messageTooLong (λ x. omega arith) (t .if4 .taken) (o .or-too-long2 .ensures)))
+    (o .or-too-long2 .ensures ∙ part-wrong (message-as b) _)
+    (still-wrong _ (λ x. omega arith) (t .if4 .taken) (o .or-too-long2 .ensures)))
 
 returns-5 : tie.Need-returns-5
 returns-5 c =

@@ -1,5 +1,4 @@
 -- Each return by the law of the tests that lead there.
-use native.Mathlib.Omega.{arith}
 use mathlib.Core.Path.{_∙_}
 use Rattle.lines.proofs.Digits.{too-many, bad-word, too-few, all-sixteen}
 use borrow.Author.Needs.{needs}

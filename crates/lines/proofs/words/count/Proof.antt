@@ -1,35 +1,42 @@
--- The invariant: the spaces counted and those still ahead are the line's. The measure is what is left of the line.
+-- The invariant: the words counted and the spaces from `at` on make the line's count. The measure is what is left of it.
 use Prim.Native.Nat.{_+_, _-_, _≤_}
-use mathlib.Core.Path.{_≡_, _∙_}
+use mathlib.Core.Path.{_≡_}
 use native.Mathlib.Omega.{arith}
 use lib.ListN.{length, drop}
-use Rattle.lines.specs.Words.{spacesIn}
-use Rattle.lines.proofs.Spaces.{one-more, no-more}
+use Rattle.lines.specs.Words.{spacesIn, countOf}
+use Rattle.lines.proofs.Spaces.{found-from, no-more, one-more}
 use borrow.Author.Needs.{needs}
 use Rattle.lines.proofs.words.count.Statement.{statement}
 use Rattle.lines.proofs.words.count.Tie as tie
 
 abbrev Inv-loop : tie.InvT-loop
-Inv-loop line spaces₀ i₀ spaces i =
-    (spaces ≤ i) × (i ≤ length line) × (spaces + spacesIn (drop i line) ≡ spacesIn line)
+Inv-loop line words₀ at₀ words at =
+    (at ≤ length line) × (words ≤ at + 1) × (words + spacesIn (drop at line) ≡ countOf line)
 
 abbrev μ-loop : tie.MeasureT-loop
-μ-loop line spaces₀ i₀ spaces i = length line - i
+μ-loop line words₀ at₀ words at = length line - at
 
-loop-again : tie.Need-loop-again Inv-loop μ-loop
-loop-again c =
-    let q : tie.At-loop Inv-loop μ-loop = c .before .before .before in
-    let a = q .before .before .args in (
-      omega arith,
-      omega arith,
-      rw (c .space .ensures .0) (one-more (a .line .now) (q .loop .i) (q .loop .spaces) (omega arith)) ∙ q .loop .inv .2,
-    )
+-- the search does not go back
+from : (c : tie.Else1 Inv-loop μ-loop) → c .before .before .loop .at ≤ c .before .find .result
+from c =
+    let q : tie.At-loop Inv-loop μ-loop = c .before .before in
+    let a : tie.Start Inv-loop μ-loop = q .before .before in
+    omega (arith, c .before .find .ensures, found-from (a .args .line .now) (q .loop .at) (q .loop .inv .0))
 
 returns : tie.Need-returns Inv-loop μ-loop
 returns c =
-    let q : tie.At-loop Inv-loop μ-loop = c .before in
-    let a = q .before .before .args in
-    omega (arith, no-more (a .line .now) (q .loop .i) (omega arith))
+    let q : tie.At-loop Inv-loop μ-loop = c .before .before in
+    let a : tie.Start Inv-loop μ-loop = q .before .before in
+    omega (arith, q .loop .inv .2, no-more (a .args .line .now) (q .loop .at) (q .loop .inv .0) (c .before .find .ensures) (c .if1 .taken))
+
+loop-again : tie.Need-loop-again Inv-loop μ-loop
+loop-again c =
+    let q : tie.At-loop Inv-loop μ-loop = c .before .before in
+    let a : tie.Start Inv-loop μ-loop = q .before .before in (
+      omega arith,
+      omega (arith, from c),
+      omega (arith, q .loop .inv .2, one-more (a .args .line .now) (q .loop .at) (q .loop .inv .0) (c .before .find .ensures) (c .if1 .left)),
+    )
 
 pub count-spec : {M : Type 1} → statement M
 count-spec =
@@ -38,11 +45,9 @@ count-spec =
     Inv-loop
     μ-loop
     (λ c. (omega arith, omega arith, omega arith))
-    (λ c. search needs)
     (λ c κs. search needs)
+    returns
+    (λ c. omega (arith, from c))
     (λ c. search needs)
-    (λ c. search needs)
-    (λ c. search needs)
-    loop-again
-    (λ c. search needs)
-    returns)
+    (λ c. omega (arith, from c))
+    loop-again)

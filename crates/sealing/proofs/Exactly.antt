@@ -1,0 +1,157 @@
+-- A line is sealed exactly if it asks for a nonce, data and a message within the sizes: from the words for them each test
+-- passes, and tests that pass leave the words no choice.
+use Prim.Native.Nat.{ℕ, zero, suc, _+_, _/_, _≤_}
+use mathlib.Core.Path.{_≡_, refl, sym, _∙_}
+use mathlib.Core.Bool.{Bool, true, false, cond, _&&_}
+use mathlib.Core.List.{List, _∷_, _++_}
+use native.Mathlib.Omega.{arith}
+use lib.ListN.{length}
+use lib.Dec.{T, ltb, eqb}
+use borrow.Author.Tests.{le-leb, leb-true, eq-eqb, eqb-true}
+use Rattle.answers.specs.Sizes.{mostData, mostMessage}
+use Rattle.answers.proofs.Rows.{zero-pass, pass-zero}
+use Rattle.hex.proofs.Index.{unhex-length}
+use Rattle.lines.specs.Words.{space, countOf, behindSpace, wordOf}
+use Rattle.lines.specs.Said.{digitsOf, bytesIn, sixteenRows, sixteenNumber}
+use Rattle.lines.specs.Claims.{Says}
+use Rattle.lines.proofs.Parted.{last-word, parted}
+use Rattle.lines.proofs.Says.{word, says}
+use Rattle.journal.specs.Line.{Fits, lineLength}
+use Rattle.journal.specs.Writer.{writerRows, writerNumber, writing, writeInto}
+use Rattle.journal.proofs.WriteLine.{writer-pass}
+use Rattle.sealing.specs.Line.{
+  partRows,
+  partNumber,
+  countNumber,
+  nonceNumber,
+  dataNumber,
+  messageNumber,
+  Sealing,
+  unless,
+  written,
+  sealLine,
+}
+use Rattle.sealing.specs.Wrong.{notThree}
+use Rattle.sealing.specs.Claims.{asking, Asked, sealed}
+use Rattle.sealing.proofs.Asking.{back, part-passes, sixteen-passes, word0, word1, word2, three-said}
+
+-- ---- the line that asks
+
+module _ (key nonce ad message old : List ℕ) (f : Fits nonce ad message) where
+  nothing-wrong : sealLine key (asking nonce ad message) old ≡ written (writeInto key nonce ad message old)
+  unfolding sealLine
+  nothing-wrong =
+      rw (
+        three-said nonce ad message (f .nonceBytes) (f .adBytes) (f .messageBytes),
+        word0 nonce ad message (f .nonceBytes) (f .adBytes) (f .messageBytes),
+        word1 nonce ad message (f .nonceBytes) (f .adBytes) (f .messageBytes),
+        word2 nonce ad message (f .nonceBytes) (f .adBytes) (f .messageBytes),
+        sixteen-passes nonce (f .nonceBytes) (f .nonce16),
+        part-passes ad (f .adBytes) mostData _ (f .ad64),
+        part-passes message (f .messageBytes) mostMessage _ (f .message256),
+        back nonce (f .nonceBytes),
+        back ad (f .adBytes),
+        back message (f .messageBytes),
+      )
+
+  -- what asks for bytes within the sizes is sealed, where there is room
+  pub asked : lineLength (length ad) (length message) ≤ length old
+      → sealLine key (asking nonce ad message) old ≡ sealed key nonce ad message old
+  unfolding writeInto writerNumber writerRows writing
+  asked l =
+      let z : writerNumber (length ad) (length message) (length old) ≡ 0 =
+      pass-zero (writerRows (length ad) (length message) (length old)) (
+        le-leb (length ad) mostData (f .ad64),
+        (
+          le-leb (length message) mostMessage (f .message256),
+          (le-leb (lineLength (length ad) (length message)) (length old) l, tt),
+        ),
+      ) in
+      nothing-wrong ∙ rw z
+
+-- ---- tests that pass
+
+-- nothing is wrong with a word, or it is said
+unless-zero : (word n : ℕ) (old : List ℕ) (rest : Sealing) → unless word n old rest .report .number ≡ 0
+    → (n ≡ 0) × (rest .report .number ≡ 0)
+unless-zero word n old rest e = go (eqb n 0) refl e
+  where
+    go : (b : Bool) → eqb n 0 ≡ b
+        → cond {A = Sealing} b rest (record { report = record { word = word; number = n; length = 0 }; buffer = old }) .report
+        .number ≡ 0 → (n ≡ 0) × (rest .report .number ≡ 0)
+    go true t e = (eqb-true n 0 t, e)
+    go false t e = let z : eqb n 0 ≡ true = eq-eqb n 0 e in absurd (let y : _≡_ {A = ℕ} 0 1 = cc in omega arith)
+
+written-zero : (line old : List ℕ) (size k : ℕ) → writing line old size k .report .number ≡ 0 → k ≡ 0
+unfolding writing
+written-zero line old size zero e = refl
+written-zero line old size (suc k) e = e
+
+count-three : (n : ℕ) → cond (eqb n 3) 0 notThree ≡ 0 → n ≡ 3
+count-three n e = go (eqb n 3) refl e
+  where
+    go : (b : Bool) → eqb n 3 ≡ b → cond b 0 notThree ≡ 0 → n ≡ 3
+    go true t e = eqb-true n 3 t
+    go false t e = absurd (omega arith)
+
+-- a word of at most so many bytes
+record Part (word : List ℕ) (most : ℕ) : Type 0 where
+  pub says : Says word
+  pub few : length (bytesIn word) ≤ most
+
+part-passed : (word : List ℕ) (most longer : ℕ) → T (ltb 0 longer && true) → partNumber word most longer ≡ 0
+    → Part word most
+unfolding partRows
+part-passed word most longer l e =
+    let (some, (all, (whole, (room, none)))) = zero-pass (partRows word most longer) l e in
+    record { says = says word some all whole; few = omega (arith, unhex-length (digitsOf word), leb-true (length (digitsOf word) / 2) most room) }
+
+-- a word of sixteen bytes
+record Nonce (word : List ℕ) : Type 0 where
+  pub says : Says word
+  pub sixteen : length (bytesIn word) ≡ 16
+
+nonce-passed : (word : List ℕ) → sixteenNumber word ≡ 0 → Nonce word
+unfolding sixteenRows
+nonce-passed word e =
+    let (some, (all, (whole, (room, none)))) = zero-pass (sixteenRows word) tt e in
+    record {
+      says = says word some all whole;
+      sixteen = unhex-length (digitsOf word) ∙ eqb-true (length (digitsOf word) / 2) 16 room;
+    }
+
+-- a line of three words is these words
+three-words : (line : List ℕ) → countOf line ≡ 3 → line ≡ wordOf 0 line ++ space ∷ (wordOf 1 line ++ space ∷ wordOf 2 line)
+unfolding wordOf
+three-words line e =
+    let p = parted line 1 (omega arith) in
+    let q = parted (behindSpace line) 0 (p .rest) in
+    sym (rw (last-word (behindSpace (behindSpace line)) (q .rest), q .joined) (p .joined))
+
+-- what is sealed asks for bytes within the sizes, and there is room
+pub only : (key line old : List ℕ) → sealLine key line old .report .number ≡ 0 → Asked line (length old)
+unfolding sealLine writeInto
+only key line old e =
+    let a = unless-zero _ (countNumber line) old _ e in
+    let b = unless-zero _ (nonceNumber line) old _ (a .1) in
+    let c = unless-zero _ (dataNumber line) old _ (b .1) in
+    let d = unless-zero _ (messageNumber line) old _ (c .1) in
+    let v = nonce-passed (wordOf 0 line) (b .0) in
+    let n = part-passed (wordOf 1 line) mostData _ tt (c .0) in
+    let m = part-passed (wordOf 2 line) mostMessage _ tt (d .0) in
+    record {
+      nonce = bytesIn (wordOf 0 line);
+      ad = bytesIn (wordOf 1 line);
+      message = bytesIn (wordOf 2 line);
+      fits =
+          record {
+            nonce16 = v .sixteen;
+            ad64 = n .few;
+            message256 = m .few;
+            nonceBytes = v .says .bytes;
+            adBytes = n .says .bytes;
+            messageBytes = m .says .bytes;
+          };
+      is = rw (← v .says .is, ← n .says .is, ← m .says .is) (three-words line (count-three (countOf line) (a .0)));
+      enough = writer-pass _ _ _ (written-zero _ old _ _ (d .1)) .fits;
+    }
