@@ -1,15 +1,14 @@
--- The words of the theorems: the line that asks for a nonce, data and a message, and what it is sealed to.
+-- The words of the theorems, with literals: the line that asks for a nonce, data and a message, and what it is sealed to.
 use Prim.Native.Nat.{ℕ, _≤_}
 use mathlib.Core.Path.{_≡_}
 use mathlib.Core.List.{List, _∷_, _++_}
 use lib.ListN.{length, drop}
-use Rattle.lines.specs.Words.{space}
 use Rattle.lines.specs.Claims.{wordFor}
 use Rattle.journal.specs.Line.{Fits, lineOf, lineLength}
 use Rattle.sealing.specs.Line.{Sealing}
 
 abbrev pub asking : (nonce ad message : List ℕ) → List ℕ
-asking nonce ad message = wordFor nonce ++ space ∷ (wordFor ad ++ space ∷ wordFor message)
+asking nonce ad message = wordFor nonce ++ 0x20 ∷ (wordFor ad ++ 0x20 ∷ wordFor message)
 
 -- a line that asks for bytes within the sizes, whose sealed line fits into `room` bytes
 pub record Asked (line : List ℕ) (room : ℕ) : Type 0 where
