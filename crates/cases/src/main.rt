@@ -1,84 +1,87 @@
 // Runs outside cases, one to a line of standard input, and writes one line for each.
-mod arms;
-mod input;
+mod answer;
+mod buffer;
+mod cipher;
+mod head;
+mod journaling;
+mod kind;
 mod output;
 mod words;
 
-use input::Window;
+use answer::Answer;
+use kind::Kind;
+use lines::Window;
 
-// What a turn hands to the next: the bytes that wait to be read as lines, and the length of the answers that wait to be written.
+// What a turn hands to the next: the bytes that wait to be read as lines, and how many bytes of answers wait to be
+// written.
 struct Run {
     window: Window,
     answers: usize,
 }
 
-// The answer to the line of `input` from `from` to `end`. A line whose front was dropped is too long for any case.
-fn reply(
-    input: &[u8],
-    from: usize,
-    end: usize,
-    dropped: bool,
-    output: &mut [u8],
-    at: usize,
-) -> usize {
-    let next = output::with_room(output, at);
-    if dropped {
-        return output::refuse(output, next);
+// The answer to one line, by its kind. Each kind takes its own words from the line.
+fn answer_to(line: &[u8]) -> Answer {
+    let kind = kind::kind_of(lines::word(line, 0));
+    match kind {
+        Kind::Seal => cipher::seal(line),
+        Kind::Open => cipher::open(line),
+        Kind::Seal2 => cipher::seal2(line),
+        Kind::Open2 => cipher::open2(line),
+        Kind::Write => journaling::write(line),
+        Kind::Read => journaling::read(line),
+        Kind::None => Answer::none(),
     }
-    if from <= end {
-        if end <= input.len() {
-            return arms::answer(&input[from..end], output, next);
-        }
+}
+
+// The line that ends at `end`. One whose front was dropped is too long for any case, and counts as an empty one.
+fn line_to(input: &[u8], w: Window, end: usize) -> &[u8] {
+    if w.dropped {
+        return lines::part(input, 0, 0);
     }
-    output::refuse(output, next)
+    lines::part(input, w.from, end)
+}
+
+// Puts the answer to one line.
+fn reply(line: &[u8], out: &mut [u8], answers: usize) -> usize {
+    let at = output::with_room(out, answers);
+    output::put_answer(answer_to(line), out, at)
 }
 
 // Answers the next whole line, or reads more where none waits.
-fn turn(input: &mut [u8], output: &mut [u8], run: Run) -> Run {
+fn turn(input: &mut [u8], out: &mut [u8], run: Run) -> Run {
     let w = run.window;
-    let end = input::newline(input, w.from, w.to);
+    let end = lines::newline(input, w);
     if end < w.to {
-        let at = reply(input, w.from, end, w.dropped, output, run.answers);
+        let answers = reply(line_to(input, w, end), out, run.answers);
         return Run {
-            window: Window {
-                from: end + 1,
-                to: w.to,
-                dropped: false,
-                ended: false,
-            },
-            answers: at,
+            window: lines::behind(w, end),
+            answers,
         };
     }
     Run {
-        window: input::refill(input, w),
+        window: lines::refill(input, w),
         answers: run.answers,
     }
 }
 
 // A last line without its newline counts.
-fn finish(input: &[u8], output: &mut [u8], run: Run) {
+fn last(input: &[u8], out: &mut [u8], run: Run) -> usize {
     let w = run.window;
     if (w.from < w.to) | w.dropped {
-        let at = reply(input, w.from, w.to, w.dropped, output, run.answers);
-        output::flush(output, at);
-        return;
+        return reply(line_to(input, w, w.to), out, run.answers);
     }
-    output::flush(output, run.answers);
+    run.answers
 }
 
-// A proved loop has to end, and nothing says that the input does: the turns count down from a number that no run uses up.
+// A proved loop has to end, and nothing says that the input does: the turns count down from a number that no run uses
+// up.
 fn main() {
     let mut waiting = io::large_buffer();
     let input: &mut [u8] = &mut waiting;
-    let mut answers = io::large_buffer();
-    let output: &mut [u8] = &mut answers;
+    let mut gathered = io::large_buffer();
+    let out: &mut [u8] = &mut gathered;
     let mut run = Run {
-        window: Window {
-            from: 0,
-            to: 0,
-            dropped: false,
-            ended: false,
-        },
+        window: lines::start(),
         answers: 0,
     };
     let mut turns = u64::MAX;
@@ -86,8 +89,9 @@ fn main() {
         if run.window.ended {
             break;
         }
-        run = turn(input, output, run);
+        run = turn(input, out, run);
         turns -= 1;
     }
-    finish(input, output, run);
+    let answers = last(input, out, run);
+    output::flush(out, answers);
 }

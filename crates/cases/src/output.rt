@@ -1,84 +1,99 @@
-// Answers are gathered in a buffer and written in large pieces. Each function puts something behind the first `at` bytes
-// and gives the new number of them.
+// Answers are gathered in a buffer and written in large pieces. What puts something puts it behind the first `at`
+// bytes, and gives the new number of them.
+use crate::answer::Answer;
+use crate::answer::NUMBERS;
+use crate::buffer::SIZE;
+use crate::buffer::front;
+use hex::Written;
+use morus::Tag;
+use std::num::wrapping_add_usize;
 
-// No answer is longer: two numbers, the digits of two buffers, and what stands between them.
-const LONGEST: usize = 20480;
+// No answer is longer: twenty digits and a space for each number, the digits of a buffer, a space, those of a tag, and
+// the newline.
+const LONGEST: usize = 21 * NUMBERS + 2 * SIZE + 34;
 
 // Writes what waits.
-pub(crate) fn flush(output: &[u8], at: usize) {
-    if at <= output.len() {
-        io::write_all(libc::STDOUT_FILENO, &output[0..at]);
+pub(crate) fn flush(out: &[u8], at: usize) {
+    if at <= out.len() {
+        io::write_all(libc::STDOUT_FILENO, &out[0..at]);
     }
 }
 
 // Makes room for one answer.
-pub(crate) fn with_room(output: &[u8], at: usize) -> usize {
-    if at <= output.len() {
-        if LONGEST <= output.len() - at {
+pub(crate) fn with_room(out: &[u8], at: usize) -> usize {
+    if at <= out.len() {
+        if LONGEST <= out.len() - at {
             return at;
         }
     }
-    flush(output, at);
+    flush(out, at);
     0
 }
 
-pub(crate) fn put(output: &mut [u8], at: usize, b: u8) -> usize {
-    if at < output.len() {
-        output[at] = b;
-        return at + 1;
-    }
-    at
+// The sum does not wrap: there is room for the whole answer.
+fn put_text(out: &mut [u8], at: usize, text: &[u8]) -> usize {
+    buffers::copy(out, at, text);
+    wrapping_add_usize(at, text.len())
 }
 
-pub(crate) fn put_text(output: &mut [u8], at: usize, text: &[u8]) -> usize {
+// A number and a space.
+fn put_number(out: &mut [u8], at: usize, number: usize) -> usize {
+    let mut digits = [0u8; 20];
+    let k = io::decimal(number as u64, &mut digits);
+    let end = put_text(out, at, &digits[..k]);
+    put_text(out, end, b" ")
+}
+
+fn put_numbers(out: &mut [u8], at: usize, numbers: [usize; NUMBERS], count: usize) -> usize {
     let mut end = at;
-    let mut i = 0;
-    while i < text.len() {
-        end = put(output, end, text[i]);
+    let mut i: usize = 0;
+    while i < count {
+        if NUMBERS <= i {
+            return end;
+        }
+        end = put_number(out, end, numbers[i]);
         i += 1;
     }
     end
 }
 
-pub(crate) fn put_number(output: &mut [u8], at: usize, n: u64) -> usize {
-    let mut digits = [0u8; 20];
-    let k = io::decimal(n, &mut digits);
-    put_text(output, at, &digits[..k])
-}
-
-// A space and a number.
-pub(crate) fn put_next(output: &mut [u8], at: usize, n: u64) -> usize {
-    let next = put(output, at, b' ');
-    put_number(output, next, n)
-}
-
-// A space and the digits of the bytes, `-` for none.
-pub(crate) fn put_bytes(output: &mut [u8], at: usize, bytes: &[u8]) -> usize {
-    let from = put(output, at, b' ');
+// The digits of the bytes, `-` for none.
+fn put_bytes(out: &mut [u8], at: usize, bytes: &[u8]) -> usize {
     if bytes.len() == 0 {
-        return put(output, from, b'-');
+        return put_text(out, at, b"-");
     }
-    if from <= output.len() {
-        let written = hex::write(bytes, &mut output[from..]);
-        return end_of(from, written, output.len());
+    if out.len() < at {
+        return at;
     }
-    from
-}
-
-fn end_of(from: usize, written: hex::Written, size: usize) -> usize {
-    match written {
-        hex::Written::Digits(n) => {
-            if size < from {
-                return from;
-            }
-            if n <= size - from { from + n } else { from }
-        }
-        hex::Written::NoRoom => from,
+    match hex::write(bytes, &mut out[at..]) {
+        Written::Digits(n) => wrapping_add_usize(at, n),
+        Written::NoRoom => at,
     }
 }
 
-// The answer to a line that is no case.
-pub(crate) fn refuse(output: &mut [u8], at: usize) -> usize {
-    let next = put(output, at, b'?');
-    put(output, next, b'\n')
+fn put_tag(out: &mut [u8], at: usize, tag: Tag) -> usize {
+    let from = put_text(out, at, b" ");
+    put_bytes(out, from, &tag)
+}
+
+// What a case answers, without the newline.
+fn put_case(a: Answer, out: &mut [u8], at: usize) -> usize {
+    let numbers = a.numbers;
+    let bytes = a.bytes;
+    let tag = a.tag;
+    let from = put_numbers(out, at, numbers, a.count);
+    let end = put_bytes(out, from, front(&bytes, a.size));
+    if a.tagged {
+        return put_tag(out, end, tag);
+    }
+    end
+}
+
+// The line of an answer, `?` for no case.
+pub(crate) fn put_answer(a: Answer, out: &mut [u8], at: usize) -> usize {
+    if a.count == 0 {
+        return put_text(out, at, b"?\n");
+    }
+    let end = put_case(a, out, at);
+    put_text(out, end, b"\n")
 }
