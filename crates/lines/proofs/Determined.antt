@@ -1,14 +1,14 @@
 -- Any two outcomes that a promise allows coincide: each is what the definition says. A read is not determined, but what it
 -- keeps is: two outcomes with the same bytes read coincide.
-use Prim.Native.Nat.{ℕ, _≤_}
+use Prim.Native.Nat.{ℕ}
 use mathlib.Core.Path.{_≡_, sym, ap, _∙_}
-use mathlib.Core.List.{List, _++_}
+use mathlib.Core.List.{List}
 use native.Mathlib.Omega.{arith}
-use lib.ListN.{length, take, drop, take-append-drop}
+use lib.ListN.{length, drop, take-append-drop}
 use Rattle.lines.specs.declared.window.Window.{Window}
 use Rattle.lines.specs.declared.said.Said.{Said}
 use Rattle.lines.specs.declared.said.Sixteen.{Sixteen}
-use Rattle.lines.specs.Window.{begun, between, waiting, lineEnd, lineTaken, MoreRead, Refilled, full, more}
+use Rattle.lines.specs.Window.{begun, between, waiting, lineEnd, lineTaken, Refilled, full, more}
 use Rattle.lines.specs.Words.{countOf, wordOf}
 use Rattle.lines.specs.Said.{SaidBytes, sixteenOf}
 

@@ -95,11 +95,11 @@ count-three n e = go (eqb n 3) refl e
     go false t e = absurd (omega arith)
 
 -- a word of at most so many bytes
-record Part (word : List ℕ) (most : ℕ) : Type 0 where
+pub record Part (word : List ℕ) (most : ℕ) : Type 0 where
   pub says : Says word
   pub few : length (bytesIn word) ≤ most
 
-part-passed : (word : List ℕ) (most longer : ℕ) → T (ltb 0 longer && true) → partNumber word most longer ≡ 0
+pub part-passed : (word : List ℕ) (most longer : ℕ) → T (ltb 0 longer && true) → partNumber word most longer ≡ 0
     → Part word most
 unfolding partRows
 part-passed word most longer l e =

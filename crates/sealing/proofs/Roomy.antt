@@ -1,0 +1,87 @@
+-- With room for the longest line a lack of room is never said: no word's number is 15, and the writer's test passes.
+use Prim.Native.Nat.{ℕ, zero, suc, _≤_}
+use mathlib.Core.Path.{_≡_, refl}
+use mathlib.Core.Logic.{_⊎_, inl, inr}
+use mathlib.Core.Bool.{Bool, true, false, cond}
+use mathlib.Core.List.{List}
+use native.Mathlib.Omega.{arith}
+use lib.ListN.{length}
+use lib.Dec.{eqb}
+use borrow.Author.Tests.{le-leb, eqb-true}
+use Rattle.answers.proofs.Rows.{first-not, pass-zero}
+use Rattle.lines.specs.Words.{countOf, wordOf}
+use Rattle.lines.specs.Said.{bytesIn, sixteenRows}
+use Rattle.journal.specs.Line.{lineLength}
+use Rattle.journal.specs.Writer.{writerRows, writerNumber, writing, writeInto}
+use Rattle.sealing.specs.Line.{
+  partRows,
+  countNumber,
+  nonceNumber,
+  dataNumber,
+  messageNumber,
+  Sealing,
+  unless,
+  sealLine,
+}
+use Rattle.sealing.specs.Wrong.{notThree}
+use Rattle.sealing.proofs.Exactly.{part-passed}
+
+-- a number that is said is the word's, or nothing is wrong with the word and it is said further on
+said-of : (word n k : ℕ) (old : List ℕ) (rest : Sealing) → unless word n old rest .report .number ≡ k
+    → (n ≡ k) ⊎ ((n ≡ 0) × (rest .report .number ≡ k))
+said-of word n k old rest e = go (eqb n 0) refl e
+  where
+    go : (b : Bool) → eqb n 0 ≡ b
+        → cond {A = Sealing} b rest (record { report = record { word = word; number = n; length = 0 }; buffer = old }) .report
+        .number ≡ k → (n ≡ k) ⊎ ((n ≡ 0) × (rest .report .number ≡ k))
+    go true t e = inr (eqb-true n 0 t, e)
+    go false t e = inl e
+
+not-count : (n : ℕ) → cond (eqb n 3) 0 notThree ≡ 15 → ⊥
+not-count n e = go (eqb n 3) e
+  where
+    go : (b : Bool) → cond b 0 notThree ≡ 15 → ⊥
+    go true e = omega arith
+    go false e = omega arith
+
+not-nonce : (line : List ℕ) → nonceNumber line ≡ 15 → ⊥
+unfolding sixteenRows
+not-nonce line = first-not 15 (sixteenRows (wordOf 0 line)) (omega arith) tt
+
+not-data : (line : List ℕ) → dataNumber line ≡ 15 → ⊥
+unfolding partRows
+not-data line = first-not 15 (partRows (wordOf 1 line) _ _) (omega arith) tt
+
+not-message : (line : List ℕ) → messageNumber line ≡ 15 → ⊥
+unfolding partRows
+not-message line = first-not 15 (partRows (wordOf 2 line) _ _) (omega arith) tt
+
+written-number : (line old : List ℕ) (size k n : ℕ) → writing line old size k .report .number ≡ n → k ≡ n
+unfolding writing
+written-number line old size zero n e = e
+written-number line old size (suc k) n e = e
+
+writes : (n m room : ℕ) → n ≤ 64 → m ≤ 256 → 707 ≤ room → writerNumber n m room ≡ 0
+unfolding writerNumber writerRows
+writes n m room d e l =
+    pass-zero (writerRows n m room)
+    (le-leb n 64 d, (le-leb m 256 e, (le-leb (lineLength n m) room (omega arith), tt)))
+
+further : {A R : Type 0} → (A → ⊥) → A ⊎ R → R
+further h (inl a) = absurd (h a)
+further h (inr r) = r
+
+pub roomy : (key line old : List ℕ) → 707 ≤ length old → sealLine key line old .report .number ≡ 15 → ⊥
+unfolding sealLine writeInto
+roomy key line old l e =
+    let a = further (not-count (countOf line)) (said-of _ (countNumber line) 15 old _ e) in
+    let b = further (not-nonce line) (said-of _ (nonceNumber line) 15 old _ (a .1)) in
+    let c = further (not-data line) (said-of _ (dataNumber line) 15 old _ (b .1)) in
+    let d = further (not-message line) (said-of _ (messageNumber line) 15 old _ (c .1)) in
+    let n = part-passed (wordOf 1 line) 64 _ tt (c .0) in
+    let m = part-passed (wordOf 2 line) 256 _ tt (d .0) in
+    omega (
+      arith,
+      writes (length (bytesIn (wordOf 1 line))) (length (bytesIn (wordOf 2 line))) (length old) (n .few) (m .few) l,
+      written-number _ old _ _ 15 (d .1),
+    )
