@@ -1,5 +1,5 @@
--- Any two outcomes that a promise allows coincide: each is what the definition says. A read is not determined, but what it
--- keeps is: two outcomes with the same bytes read coincide.
+-- Any two outcomes that a promise allows coincide: each is what the definition says. What a read gives is not
+-- determined, what it keeps is: two outcomes with the same bytes read coincide.
 use Prim.Native.Nat.{ℕ}
 use mathlib.Core.Path.{_≡_, sym, ap, _∙_}
 use mathlib.Core.List.{List}
@@ -35,16 +35,16 @@ same {r₁} {r₂} n c =
     ap {B = Said} (λ (x : ℕ). record { number = x; count = r₁ .count }) n
     ∙ ap {B = Said} (λ (x : ℕ). record { number = r₂ .number; count = x }) c
 
-pub bytes-of : {word bytes : List ℕ} {r₁ r₂ : Said} {b₁ b₂ : List ℕ} → SaidBytes word bytes r₁ b₁ → SaidBytes word bytes r₂ b₂
-    → (r₁ ≡ r₂) × (b₁ ≡ b₂)
+pub bytes-of : {word bytes : List ℕ} {r₁ r₂ : Said} {b₁ b₂ : List ℕ} → SaidBytes word bytes r₁ b₁
+    → SaidBytes word bytes r₂ b₂ → (r₁ ≡ r₂) × (b₁ ≡ b₂)
 bytes-of p q = (same (p .number ∙ sym (q .number)) (p .count ∙ sym (q .count)), p .buffer ∙ sym (q .buffer))
 
 pub sixteen-of : (word : List ℕ) {r₁ r₂ : Sixteen} → r₁ ≡ sixteenOf word → r₂ ≡ sixteenOf word → r₁ ≡ r₂
 sixteen-of word p q = p ∙ sym q
 
 -- where as much was read, and the same
-pub refill : {s : List ℕ} {w r₁ r₂ : Window} {s₁ s₂ : List ℕ} → Refilled s w r₁ s₁ → Refilled s w r₂ s₂ → r₁ .to ≡ r₂ .to
-    → drop (length (waiting s w)) s₁ ≡ drop (length (waiting s w)) s₂ → (r₁ ≡ r₂) × (s₁ ≡ s₂)
+pub refill : {s : List ℕ} {w r₁ r₂ : Window} {s₁ s₂ : List ℕ} → Refilled s w r₁ s₁ → Refilled s w r₂ s₂
+    → r₁ .to ≡ r₂ .to → drop (length (waiting s w)) s₁ ≡ drop (length (waiting s w)) s₂ → (r₁ ≡ r₂) × (s₁ ≡ s₂)
 refill (full a p x) (full b q y) t d = (p ∙ sym q, x ∙ sym y)
 refill (full a p x) (more b y q) t d = absurd (omega arith)
 refill (more a x p) (full b q y) t d = absurd (omega arith)

@@ -47,7 +47,8 @@ module _ (word : List ℕ) where
 -- ---- a word
 
 -- a word with nothing in it
-pub nothing-said : (word bytes : List ℕ) → length word ≡ 0 → SaidBytes word bytes (record { number = nothing; count = 0 }) bytes
+pub nothing-said : (word bytes : List ℕ) → length word ≡ 0
+    → SaidBytes word bytes (record { number = nothing; count = 0 }) bytes
 unfolding digitsOf wordRows firstFailing
 nothing-said [] bytes e =
     let l = le-leb 0 (length bytes) (omega arith) in record { number = refl; count = rw l; buffer = rw l }
@@ -154,7 +155,8 @@ module _ (word : List ℕ) where
   unfolding sixteenRows firstFailing
   by-tests = refl
 
-  refused : {n : ℕ} → sixteenNumber word ≡ n → (n ≡ 0 → ⊥) → record { number = n; bytes = replicate 16 0 } ≡ sixteenOf word
+  refused : {n : ℕ} → sixteenNumber word ≡ n → (n ≡ 0 → ⊥)
+      → record { number = n; bytes = replicate 16 0 } ≡ sixteenOf word
   unfolding sixteenOf
   refused {n} e z = rw (e, ne-eqb n 0 z)
 
@@ -165,16 +167,18 @@ module _ (word : List ℕ) where
     pub too-many : r .number ≡ noRoom → record { number = notSixteen; bytes = replicate 16 0 } ≡ sixteenOf word
     too-many e =
         let t = no-room (some word) (digits word) (even word) (room word 16) (rw numbered at e) in
-        let f : sixteen word ≡ false = ne-eqb (length (digitsOf word) / 2) 16 (λ x. omega (arith, x, leb-false (length (digitsOf word) / 2) 16 (t .0))) in
+        let l = leb-false (length (digitsOf word) / 2) 16 (t .0) in
+        let f : sixteen word ≡ false = ne-eqb (length (digitsOf word) / 2) 16 (λ x. omega (arith, x, l)) in
         refused (by-tests ∙ rw f (t .1)) (λ x. omega arith)
 
     pub bad-word : (r .number ≡ noRoom → ⊥) → (r .number ≡ 0 → ⊥)
         → record { number = r .number; bytes = replicate 16 0 } ≡ sixteenOf word
     bad-word n z =
-        refused (by-tests ∙ wrong (some word) (digits word) (even word) (room word 16) (sixteen word) (λ e. n (numbered ∙ e)) (λ e. z (numbered ∙ e))
-        ∙ sym numbered) z
+        refused (by-tests ∙ wrong (some word) (digits word) (even word) (room word 16) (sixteen word)
+        (λ e. n (numbered ∙ e)) (λ e. z (numbered ∙ e)) ∙ sym numbered) z
 
-    pub too-few : r .number ≡ 0 → (r .count ≡ 16 → ⊥) → record { number = notSixteen; bytes = replicate 16 0 } ≡ sixteenOf word
+    pub too-few : r .number ≡ 0 → (r .count ≡ 16 → ⊥)
+        → record { number = notSixteen; bytes = replicate 16 0 } ≡ sixteenOf word
     too-few e n =
         let t = all-fine (some word) (digits word) (even word) (room word 16) (rw numbered at e) in
         let k : r .count ≡ length (digitsOf word) / 2 = w .count ∙ rw (t .1, t .2, t .3) in
@@ -189,7 +193,8 @@ module _ (word : List ℕ) where
         let k : length (digitsOf word) / 2 ≡ 16 = sym (w .count ∙ rw (t .1, t .2, t .3)) ∙ n in
         let z : sixteenNumber word ≡ 0 = by-tests ∙ rw (t .0, t .1, t .2, eq-eqb (length (digitsOf word) / 2) 16 k) in
         let b : bytes' ≡ bytesIn word =
-        w .buffer ∙ rw (s, take-all 16 (bytesIn word) (omega (arith, k, unhex-length (digitsOf word)))) (append-nil (bytesIn word)) in
+        w .buffer ∙ rw (s, take-all 16 (bytesIn word) (omega (arith, k, unhex-length (digitsOf word))))
+        (append-nil (bytesIn word)) in
         rw (z, b)
 
   pub sixteen-number : sixteenOf word .number ≡ sixteenNumber word

@@ -70,7 +70,8 @@ module _ (s : List ℕ) (from i : ℕ) (h : from + i < length s) where
   move-more =
       let t : take (suc i) (drop from s) ≡ take i (drop from s) ++ (getD s (from + i) 0 ∷ []) =
       rw (← getD-drop from s i 0) (take-suc (drop from s) i 0 (omega (arith, length-drop from s))) in
-      rw (not-yet, drop-cons s i 0 (omega arith), add-one i, t, append-snoc (take i (drop from s)) (getD s (from + i) 0) (drop (suc i) s))
+      let a = append-snoc (take i (drop from s)) (getD s (from + i) 0) (drop (suc i) s) in
+      rw (not-yet, drop-cons s i 0 (omega arith), add-one i, t, a)
       (set-at (take i (drop from s)) (getD s i 0) (drop (suc i) s) (getD s (from + i) 0) i many)
 
 pub moved : (s : List ℕ) (from to : ℕ) → movedSo s from (length (between s from to)) ≡ toFront s (between s from to)

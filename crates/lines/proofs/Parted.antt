@@ -66,7 +66,8 @@ parted (c ∷ cs) n h = go (eqb c space) refl (parted cs n)
     go : (b : Bool) → eqb c space ≡ b → (spacesIn cs ≡ suc n → Parted cs n) → Parted (c ∷ cs) n
     go true e ih =
         let one : spacesIn (c ∷ cs) ≡ 1 + spacesIn cs = rw e in
-        record { plain = rw e; rest = rw e (omega (arith, h, one)); joined = rw e (ap (λ (x : ℕ). x ∷ cs) (sym (eqb-true c space e))) }
+        let s = sym (eqb-true c space e) in
+        record { plain = rw e; rest = rw e (omega (arith, h, one)); joined = rw e (ap (λ (x : ℕ). x ∷ cs) s) }
     go false e ih =
         let none : spacesIn (c ∷ cs) ≡ 0 + spacesIn cs = rw e in
         let p = ih (omega (arith, h, none)) in

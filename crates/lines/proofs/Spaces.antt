@@ -60,7 +60,8 @@ module _ (line : List ℕ) (at : ℕ) (h : at ≤ length line) where
       let n : end + 1 ≡ at + suc (indexOf space (drop at line)) = omega (arith, found) in
       rw n (sym (drop-drop (suc (indexOf space (drop at line))) at line))
 
-  pub behind-none : {end : ℕ} → end ≡ firstFrom space line at → length line ≤ end → drop end line ≡ behindSpace (drop at line)
+  pub behind-none : {end : ℕ} → end ≡ firstFrom space line at → length line ≤ end
+      → drop end line ≡ behindSpace (drop at line)
   behind-none {end} e l =
       drop-of-length-le line {i = end} l
       ∙ sym (sym (behind-space e) ∙ drop-of-length-le line {i = end + 1} (omega arith))

@@ -25,7 +25,8 @@ pub fn count(line: &[u8]) -> usize
 // One past the first space at or after `at`, or the end where there is none.
 fn behind_space(line: &[u8], at: usize) -> usize
     requires { ⌜ at ≤ length (now line) ⌝ }
-    ensures { λ r. ⌜ (r ≤ length (now (line .entry))) × (drop r (now (line .entry)) ≡ behindSpace (drop at (now (line .entry)))) ⌝ }
+    ensures { λ r. ⌜ r ≤ length (now (line .entry)) ⌝ }
+    ensures { λ r. ⌜ drop r (now (line .entry)) ≡ behindSpace (drop at (now (line .entry))) ⌝ }
 {
     let end = find(line, at, b' ');
     if end < line.len() { end + 1 } else { end }

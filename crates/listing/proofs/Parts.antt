@@ -21,7 +21,8 @@ module _ (input : List ℕ) (place : ℕ) where
   unfolding parts
   big g h = rw (g, lt-leb (length (journalOf input)) mostJournal h)
 
-  pub journal : goodKey input ≡ true → length (journalOf input) ≤ mostJournal → parts input place ≡ answersFrom (keyOf input) (journalOf input) place
+  pub journal : goodKey input ≡ true → length (journalOf input) ≤ mostJournal
+      → parts input place ≡ answersFrom (keyOf input) (journalOf input) place
   unfolding parts
   journal g h = rw (g, le-leb (length (journalOf input)) mostJournal h)
 

@@ -1,5 +1,6 @@
-// Seals lines: standard input is a key line, then lines of three words, NONCE DATA MESSAGE; standard output is their sealed
-// lines. What a line is sealed to is the library's `sealing::seal_line`; here it is read, called and written.
+// Seals lines: standard input is a key line, then lines of three words, NONCE DATA MESSAGE; standard output is their
+// sealed lines. What a line is sealed to is the library's `sealing::seal_line`: here lines are read, handed to it and
+// written.
 mod output;
 mod refusal;
 

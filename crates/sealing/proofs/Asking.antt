@@ -1,4 +1,4 @@
--- The line that asks for bytes: it has three words, each says its bytes, and what is wrong with a word is its length alone.
+-- The line that asks for bytes: it has three words, each says its bytes, and nothing but a length is wrong with it.
 use Prim.Native.Nat.{ℕ, _/_, _%_, _≤_, _<_}
 use mathlib.Core.Path.{_≡_, _∙_}
 use mathlib.Core.Bool.{true}
@@ -45,7 +45,8 @@ module _ (b : List ℕ) (h : Bytes b) where
 
   pub sixteen-passes : length b ≡ 16 → sixteenNumber (wordFor b) ≡ 0
   unfolding sixteenRows
-  sixteen-passes l = pass-zero (sixteenRows (wordFor b)) (w .some, (all, (whole, (rw half (eq-eqb (length b) 16 l), tt))))
+  sixteen-passes l =
+      pass-zero (sixteenRows (wordFor b)) (w .some, (all, (whole, (rw half (eq-eqb (length b) 16 l), tt))))
 
   pub part-too-long : (most longer : ℕ) → most < length b → partNumber (wordFor b) most longer ≡ longer
   unfolding partRows firstFailing
@@ -69,17 +70,21 @@ module _ (nonce ad message : List ℕ) (nb : Bytes nonce) (ab : Bytes ad) (mb : 
 
   three : countOf (asking nonce ad message) ≡ 3
   three =
-      omega (arith, spaces-joined (wordFor nonce) (wordFor ad ++ space ∷ wordFor message), spaces-joined (wordFor ad) (wordFor message), v, d, m)
+      let a = spaces-joined (wordFor nonce) (wordFor ad ++ space ∷ wordFor message) in
+      omega (arith, a, spaces-joined (wordFor ad) (wordFor message), v, d, m)
 
   pub word0 : wordOf 0 (asking nonce ad message) ≡ wordFor nonce
   word0 = first-word (wordFor nonce) (wordFor ad ++ space ∷ wordFor message) v
 
   pub word1 : wordOf 1 (asking nonce ad message) ≡ wordFor ad
-  word1 = next-word (wordFor nonce) (wordFor ad ++ space ∷ wordFor message) v 0 ∙ first-word (wordFor ad) (wordFor message) d
+  word1 =
+      next-word (wordFor nonce) (wordFor ad ++ space ∷ wordFor message) v 0
+      ∙ first-word (wordFor ad) (wordFor message) d
 
   pub word2 : wordOf 2 (asking nonce ad message) ≡ wordFor message
   word2 =
-      next-word (wordFor nonce) (wordFor ad ++ space ∷ wordFor message) v 1 ∙ next-word (wordFor ad) (wordFor message) d 0
+      next-word (wordFor nonce) (wordFor ad ++ space ∷ wordFor message) v 1
+      ∙ next-word (wordFor ad) (wordFor message) d 0
       ∙ last-word (wordFor message) m
 
   pub three-said : countNumber (asking nonce ad message) ≡ 0

@@ -1,7 +1,8 @@
--- A line is sealed exactly if it asks for a nonce, data and a message within the sizes: from the words for them each test
--- passes, and tests that pass leave the words no choice.
+-- A line is sealed exactly if it asks for a nonce, data and a message within the sizes: from the words for them each
+-- test passes, and tests that pass leave the words no choice.
 use Prim.Native.Nat.{ℕ, zero, suc, _+_, _/_, _≤_}
 use mathlib.Core.Path.{_≡_, refl, sym, _∙_}
+use mathlib.Core.Logic.{_⊎_, inl, inr}
 use mathlib.Core.Bool.{Bool, true, false, cond, _&&_}
 use mathlib.Core.List.{List, _∷_, _++_}
 use native.Mathlib.Omega.{arith}
@@ -33,6 +34,7 @@ use Rattle.sealing.specs.Line.{
 }
 use Rattle.sealing.specs.Wrong.{notThree}
 use Rattle.sealing.specs.Claims.{asking, Asked, sealed}
+use Rattle.sealing.proofs.Tests.{said-of, written-number}
 use Rattle.sealing.proofs.Asking.{back, part-passes, sixteen-passes, word0, word1, word2, three-said}
 
 -- ---- the line that asks
@@ -71,21 +73,14 @@ module _ (key nonce ad message old : List ℕ) (f : Fits nonce ad message) where
 
 -- ---- tests that pass
 
--- nothing is wrong with a word, or it is said
+-- no number is said, so nothing is wrong with the word
 unless-zero : (word n : ℕ) (old : List ℕ) (rest : Sealing) → unless word n old rest .report .number ≡ 0
     → (n ≡ 0) × (rest .report .number ≡ 0)
-unless-zero word n old rest e = go (eqb n 0) refl e
+unless-zero word n old rest e = go (said-of word n 0 old rest e)
   where
-    go : (b : Bool) → eqb n 0 ≡ b
-        → cond {A = Sealing} b rest (record { report = record { word = word; number = n; length = 0 }; buffer = old }) .report
-        .number ≡ 0 → (n ≡ 0) × (rest .report .number ≡ 0)
-    go true t e = (eqb-true n 0 t, e)
-    go false t e = let z : eqb n 0 ≡ true = eq-eqb n 0 e in absurd (let y : _≡_ {A = ℕ} 0 1 = cc in omega arith)
-
-written-zero : (line old : List ℕ) (size k : ℕ) → writing line old size k .report .number ≡ 0 → k ≡ 0
-unfolding writing
-written-zero line old size zero e = refl
-written-zero line old size (suc k) e = e
+    go : ((n ≡ 0 → ⊥) × (n ≡ 0)) ⊎ ((n ≡ 0) × (rest .report .number ≡ 0)) → (n ≡ 0) × (rest .report .number ≡ 0)
+    go (inl (h, z)) = absurd (h z)
+    go (inr x) = x
 
 count-three : (n : ℕ) → cond (eqb n 3) 0 notThree ≡ 0 → n ≡ 3
 count-three n e = go (eqb n 3) refl e
@@ -104,7 +99,8 @@ pub part-passed : (word : List ℕ) (most longer : ℕ) → T (ltb 0 longer && t
 unfolding partRows
 part-passed word most longer l e =
     let (some, (all, (whole, (room, none)))) = zero-pass (partRows word most longer) l e in
-    record { says = says word some all whole; few = omega (arith, unhex-length (digitsOf word), leb-true (length (digitsOf word) / 2) most room) }
+    let l = leb-true (length (digitsOf word) / 2) most room in
+    record { says = says word some all whole; few = omega (arith, unhex-length (digitsOf word), l) }
 
 -- a word of sixteen bytes
 record Nonce (word : List ℕ) : Type 0 where
@@ -121,7 +117,8 @@ nonce-passed word e =
     }
 
 -- a line of three words is these words
-three-words : (line : List ℕ) → countOf line ≡ 3 → line ≡ wordOf 0 line ++ space ∷ (wordOf 1 line ++ space ∷ wordOf 2 line)
+three-words : (line : List ℕ) → countOf line ≡ 3
+    → line ≡ wordOf 0 line ++ space ∷ (wordOf 1 line ++ space ∷ wordOf 2 line)
 unfolding wordOf
 three-words line e =
     let p = parted line 1 (omega arith) in
@@ -153,5 +150,5 @@ only key line old e =
             messageBytes = m .says .bytes;
           };
       is = rw (← v .says .is, ← n .says .is, ← m .says .is) (three-words line (count-three (countOf line) (a .0)));
-      enough = writer-pass _ _ _ (written-zero _ old _ _ (d .1)) .fits;
+      enough = writer-pass _ _ _ (written-number _ old _ _ 0 (d .1)) .fits;
     }

@@ -9,7 +9,16 @@ use Rattle.lines.specs.Said.{sixteenNumber}
 use Rattle.lines.specs.Claims.{wordFor}
 use Rattle.sealing.specs.Line.{countNumber, dataNumber, messageNumber, sealLine}
 use Rattle.sealing.specs.Claims.{asking, Refused}
-use Rattle.sealing.proofs.Asking.{part-passes, part-too-long, sixteen-passes, not-sixteen, word0, word1, word2, three-said}
+use Rattle.sealing.proofs.Asking.{
+  part-passes,
+  part-too-long,
+  sixteen-passes,
+  not-sixteen,
+  word0,
+  word1,
+  word2,
+  three-said,
+}
 
 module _ (key nonce ad message old : List ℕ) (nb : Bytes nonce) (ab : Bytes ad) (mb : Bytes message) where
   t : countNumber (asking nonce ad message) ≡ 0
@@ -38,7 +47,8 @@ module _ (key nonce ad message old : List ℕ) (nb : Bytes nonce) (ab : Bytes ad
         let x : dataNumber (asking nonce ad message) ≡ 8 = rw d (part-too-long ad ab 64 _ l) in
         record { report = rw (t, v, s, x); buffer = rw (t, v, s, x) }
 
-    pub long-message : length ad ≤ 64 → 256 < length message → Refused (sealLine key (asking nonce ad message) old) 3 10 old
+    pub long-message : length ad ≤ 64 → 256 < length message
+        → Refused (sealLine key (asking nonce ad message) old) 3 10 old
     unfolding sealLine
     long-message h l =
         let x : messageNumber (asking nonce ad message) ≡ 10 = rw m (part-too-long message mb 256 _ l) in

@@ -24,18 +24,8 @@ use Rattle.sealing.specs.Line.{
   sealLine,
 }
 use Rattle.sealing.specs.Wrong.{notThree}
+use Rattle.sealing.proofs.Tests.{said-of, written-number}
 use Rattle.sealing.proofs.Exactly.{part-passed}
-
--- a number that is said is the word's, or nothing is wrong with the word and it is said further on
-said-of : (word n k : ℕ) (old : List ℕ) (rest : Sealing) → unless word n old rest .report .number ≡ k
-    → (n ≡ k) ⊎ ((n ≡ 0) × (rest .report .number ≡ k))
-said-of word n k old rest e = go (eqb n 0) refl e
-  where
-    go : (b : Bool) → eqb n 0 ≡ b
-        → cond {A = Sealing} b rest (record { report = record { word = word; number = n; length = 0 }; buffer = old }) .report
-        .number ≡ k → (n ≡ k) ⊎ ((n ≡ 0) × (rest .report .number ≡ k))
-    go true t e = inr (eqb-true n 0 t, e)
-    go false t e = inl e
 
 not-count : (n : ℕ) → cond (eqb n 3) 0 notThree ≡ 15 → ⊥
 not-count n e = go (eqb n 3) e
@@ -56,19 +46,14 @@ not-message : (line : List ℕ) → messageNumber line ≡ 15 → ⊥
 unfolding partRows
 not-message line = first-not 15 (partRows (wordOf 2 line) _ _) (omega arith) tt
 
-written-number : (line old : List ℕ) (size k n : ℕ) → writing line old size k .report .number ≡ n → k ≡ n
-unfolding writing
-written-number line old size zero n e = e
-written-number line old size (suc k) n e = e
-
 writes : (n m room : ℕ) → n ≤ 64 → m ≤ 256 → 707 ≤ room → writerNumber n m room ≡ 0
 unfolding writerNumber writerRows
 writes n m room d e l =
     pass-zero (writerRows n m room)
     (le-leb n 64 d, (le-leb m 256 e, (le-leb (lineLength n m) room (omega arith), tt)))
 
-further : {A R : Type 0} → (A → ⊥) → A ⊎ R → R
-further h (inl a) = absurd (h a)
+further : {A N R : Type 0} → (A → ⊥) → (N × A) ⊎ R → R
+further h (inl (n, a)) = absurd (h a)
 further h (inr r) = r
 
 pub roomy : (key line old : List ℕ) → 707 ≤ length old → sealLine key line old .report .number ≡ 15 → ⊥

@@ -1,11 +1,12 @@
 -- The line by its tests: each refusal from the tests before it, and the written line from all of them.
-use Prim.Native.Nat.{ℕ}
+use Prim.Native.Nat.{ℕ, zero, suc}
 use mathlib.Core.Path.{_≡_, refl, sym, _∙_}
+use mathlib.Core.Logic.{_⊎_, inl, inr}
 use mathlib.Core.Bool.{Bool, true, false, cond}
 use mathlib.Core.List.{List}
 use lib.ListN.{length}
 use lib.Dec.{eqb}
-use borrow.Author.Tests.{ne-eqb}
+use borrow.Author.Tests.{ne-eqb, eqb-true, eqb-false}
 use Rattle.answers.specs.Numbers.{notDigit, odd}
 use Rattle.answers.specs.Rows.{firstFailing}
 use Rattle.hex.specs.Promise.{noRoom}
@@ -14,9 +15,20 @@ use Rattle.lines.specs.Words.{countOf, wordOf}
 use Rattle.lines.specs.Said.{nothing, bytesIn, SaidBytes}
 use Rattle.lines.proofs.Digits.{any, some, digits, even, room, by-number}
 use Rattle.journal.specs.declared.Line.{Line}
+use Rattle.journal.specs.Writer.{writing}
 use Rattle.journal.specs.Promise.{LineWritten}
 use Rattle.sealing.specs.Wrong.{none, nonceWord, dataWord, messageWord, wholeLine, notThree}
-use Rattle.sealing.specs.Line.{partRows, partNumber, countNumber, nonceNumber, dataNumber, messageNumber, sealLine}
+use Rattle.sealing.specs.Line.{
+  partRows,
+  partNumber,
+  countNumber,
+  nonceNumber,
+  dataNumber,
+  messageNumber,
+  Sealing,
+  unless,
+  sealLine,
+}
 use Rattle.sealing.specs.Promise.{LineSealed}
 
 -- ---- a word
@@ -31,9 +43,11 @@ longer-for true false c d longer = refl
 longer-for false b c d longer = refl
 
 module _ {word bytes : List ℕ} {r : Said} {bytes' : List ℕ} (w : SaidBytes word bytes r bytes') where
-  pub part-wrong : (longer : ℕ) → cond (eqb (r .number) noRoom) longer (r .number) ≡ partNumber word (length bytes) longer
+  pub part-wrong : (longer : ℕ)
+      → cond (eqb (r .number) noRoom) longer (r .number) ≡ partNumber word (length bytes) longer
   unfolding partRows firstFailing
-  part-wrong longer = rw (by-number w) (longer-for (some word) (digits word) (even word) (room word (length bytes)) longer)
+  part-wrong longer =
+      rw (by-number w) (longer-for (some word) (digits word) (even word) (room word (length bytes)) longer)
 
   pub part-fine : (longer : ℕ) → r .number ≡ 0 → partNumber word (length bytes) longer ≡ 0
   part-fine longer e = sym (part-wrong longer) ∙ rw e
@@ -81,3 +95,23 @@ module _ (key line out : List ℕ) where
             → LineSealed key line out (record { word = none; number = r .number; length = r .length }) out'
         unfolding sealLine
         all-written m w = record { report = rw (c, v, d, m, w .report); buffer = rw (c, v, d, m) (w .buffer) }
+
+-- ---- the number that is said
+
+-- it is the word's, or nothing is wrong with the word and it is said further on
+pub said-of : (word n k : ℕ) (old : List ℕ) (rest : Sealing) → unless word n old rest .report .number ≡ k
+    → ((n ≡ 0 → ⊥) × (n ≡ k)) ⊎ ((n ≡ 0) × (rest .report .number ≡ k))
+said-of word n k old rest e = go (eqb n 0) refl e
+  where
+    no : Sealing
+    no = record { report = record { word = word; number = n; length = 0 }; buffer = old }
+
+    go : (b : Bool) → eqb n 0 ≡ b → cond {A = Sealing} b rest no .report .number ≡ k
+        → ((n ≡ 0 → ⊥) × (n ≡ k)) ⊎ ((n ≡ 0) × (rest .report .number ≡ k))
+    go true t e = inr (eqb-true n 0 t, e)
+    go false t e = inl (eqb-false n 0 t, e)
+
+pub written-number : (line old : List ℕ) (size k n : ℕ) → writing line old size k .report .number ≡ n → k ≡ n
+unfolding writing
+written-number line old size zero n e = e
+written-number line old size (suc k) n e = e

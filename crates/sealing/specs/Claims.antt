@@ -1,4 +1,4 @@
--- The words of the theorems, with literals: the line that asks for a nonce, data and a message, and what it is sealed to.
+-- The words of the theorems, with literals: the line that asks for a nonce, data and a message, and its sealed line.
 use Prim.Native.Nat.{ℕ, _≤_}
 use mathlib.Core.Path.{_≡_}
 use mathlib.Core.List.{List, _∷_, _++_}

@@ -10,7 +10,16 @@ use Rattle.lines.specs.Said.{bytesIn, SaidBytes, sixteenOf}
 use Rattle.lines.specs.declared.said.Sixteen.{Sixteen}
 use Rattle.lines.proofs.Digits.{Good, good, sixteen-number, sixteen-bytes}
 use Rattle.sealing.specs.Line.{nonceNumber, dataNumber, messageNumber}
-use Rattle.sealing.proofs.Tests.{part-wrong, part-fine, still-wrong, not-three, nonce-wrong, data-wrong, message-wrong, all-written}
+use Rattle.sealing.proofs.Tests.{
+  part-wrong,
+  part-fine,
+  still-wrong,
+  not-three,
+  nonce-wrong,
+  data-wrong,
+  message-wrong,
+  all-written,
+}
 use borrow.Author.Needs.{needs}
 use Rattle.sealing.proofs.seal_line.Statement.{statement}
 use Rattle.sealing.proofs.seal_line.Tie as tie
@@ -33,7 +42,8 @@ count-at e = sym (e .before .count .ensures) ∙ e .if1 .left
 
 -- ---- the nonce
 
-nonce-as : (s : tie.After-sixteen-of) → s .sixteen-of .result ≡ sixteenOf (wordOf 0 (start (s .before .before) .args .line .now))
+nonce-as : (s : tie.After-sixteen-of)
+    → s .sixteen-of .result ≡ sixteenOf (wordOf 0 (start (s .before .before) .args .line .now))
 nonce-as s = s .sixteen-of .ensures ∙ rw (s .before .word .ensures)
 
 nonce-number : (s : tie.After-sixteen-of)
@@ -63,7 +73,8 @@ message-at e = part-fine (message-as (e .before .before .before)) _ (e .if4 .lef
 
 -- ---- the bytes that are sealed
 
-nonce-bytes : (e : tie.Else2) → e .before .before .sixteen-of .result .bytes ≡ bytesIn (wordOf 0 (start (one e) .args .line .now))
+nonce-bytes : (e : tie.Else2)
+    → e .before .before .sixteen-of .result .bytes ≡ bytesIn (wordOf 0 (start (one e) .args .line .now))
 nonce-bytes e = ap (λ (x : Sixteen). x .bytes) (nonce-as (e .before .before)) ∙ sixteen-bytes _ (nonce-at e)
 
 data-good : (e : tie.Else3) → Good (wordOf 1 (start (one (two e)) .args .line .now)) mostData

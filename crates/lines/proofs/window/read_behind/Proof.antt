@@ -9,7 +9,8 @@ returns : tie.Need-returns
 returns c =
     let r : tie.After-read = c .before .before .before .before .before in
     let a : tie.Start = r .before .before .before in
-    read-behind (a .args .s .now) (r .read .last .1 .0) (a .args .kept) (c .count .result) (a .pre) (r .read .kept .1 .0) (omega arith)
+    read-behind (a .args .s .now) (r .read .last .1 .0) (a .args .kept) (c .count .result) (a .pre)
+    (r .read .kept .1 .0) (omega arith)
 
 pub read-behind-spec : {M : Type 1} → statement M
 read-behind-spec =

@@ -1,4 +1,4 @@
--- The invariant: the words counted and the spaces from `at` on make the line's count. The measure is what is left of it.
+-- The invariant: the words counted and the spaces from `at` on make the line's count. The measure is what is left.
 use Prim.Native.Nat.{_+_, _-_, _≤_}
 use mathlib.Core.Path.{_≡_}
 use native.Mathlib.Omega.{arith}
@@ -27,16 +27,15 @@ returns : tie.Need-returns Inv-loop μ-loop
 returns c =
     let q : tie.At-loop Inv-loop μ-loop = c .before .before in
     let a : tie.Start Inv-loop μ-loop = q .before .before in
-    omega (arith, q .loop .inv .2, no-more (a .args .line .now) (q .loop .at) (q .loop .inv .0) (c .before .find .ensures) (c .if1 .taken))
+    let z = no-more (a .args .line .now) (q .loop .at) (q .loop .inv .0) (c .before .find .ensures) (c .if1 .taken) in
+    omega (arith, q .loop .inv .2, z)
 
 loop-again : tie.Need-loop-again Inv-loop μ-loop
 loop-again c =
     let q : tie.At-loop Inv-loop μ-loop = c .before .before in
-    let a : tie.Start Inv-loop μ-loop = q .before .before in (
-      omega arith,
-      omega (arith, from c),
-      omega (arith, q .loop .inv .2, one-more (a .args .line .now) (q .loop .at) (q .loop .inv .0) (c .before .find .ensures) (c .if1 .left)),
-    )
+    let a : tie.Start Inv-loop μ-loop = q .before .before in
+    let o = one-more (a .args .line .now) (q .loop .at) (q .loop .inv .0) (c .before .find .ensures) (c .if1 .left) in
+    (omega arith, omega (arith, from c), omega (arith, q .loop .inv .2, o))
 
 pub count-spec : {M : Type 1} → statement M
 count-spec =

@@ -37,7 +37,8 @@ returns c =
     let q : tie.At-loop Inv-loop μ-loop = f .before .before in
     let a = q .before .before .args in
     let z : q .loop .left ≡ 0 = omega arith in
-    c .part .ensures ∙ rw (f .find .ensures) (this-word (a .line .now) (q .loop .at) (q .loop .inv .0)) ∙ rw z at (q .loop .inv .1)
+    let w = this-word (a .line .now) (q .loop .at) (q .loop .inv .0) in
+    c .part .ensures ∙ rw (f .find .ensures) w ∙ rw z at (q .loop .inv .1)
 
 pub word-spec : {M : Type 1} → statement M
 word-spec =
