@@ -1,20 +1,21 @@
 -- What a caller learns of the line that was read: whether it is good, then the key and the line's length. The line that
--- says a key is good, and gives that key, whatever follows it.
+-- says a key is good and gives that key, whatever follows it, and no other line is good.
 use Prim.Native.Nat.{ℕ, _≤_}
-use mathlib.Core.Path.{_≡_, refl}
-use mathlib.Core.Bool.{Bool, true, false, cond, _&&_}
+use mathlib.Core.Path.{_≡_, refl, _∙_}
+use mathlib.Core.Bool.{Bool, true, false, cond}
 use mathlib.Core.List.{List, _∷_, _++_}
 use native.Mathlib.Omega.{arith}
-use lib.ListN.{length, take, length-append}
-use lib.Seq.{take-at, getD-at}
-use lib.Dec.{leb}
-use borrow.Author.Tests.{le-leb, leb-true}
+use lib.ListN.{length, getD, take, drop, length-append}
+use lib.Seq.{take-at, getD-at, length-take-le, split-at}
+use lib.Dec.{leb, eqb}
+use borrow.Author.Tests.{le-leb, leb-true, eqb-true}
 use Rattle.buffers.specs.Bytes.{Bytes}
-use Rattle.hex.specs.Hex.{hexOf}
-use Rattle.hex.proofs.Laws.{coded}
+use Rattle.hex.specs.Hex.{hexOf, unhex}
+use Rattle.hex.proofs.Digit.{and-true}
+use Rattle.hex.proofs.Laws.{coded, decoded}
 use Rattle.keyline.specs.declared.KeyLine.{KeyLine}
 use Rattle.keyline.specs.Sizes.{keyLineSize}
-use Rattle.keyline.specs.KeyLine.{goodKey, keyOf, keyLine}
+use Rattle.keyline.specs.KeyLine.{goodKey, keyOf, keyLine, Begins}
 
 module _ (input : List ℕ) where
   pub line-good : keyLine input .good ≡ goodKey input
@@ -32,11 +33,24 @@ module _ (input : List ℕ) where
 
   pub line-long : goodKey input ≡ true → keyLineSize ≤ length input
   unfolding goodKey
-  line-long g = leb-true keyLineSize (length input) (first (leb keyLineSize (length input)) _ g)
-    where
-      first : (a b : Bool) → a && b ≡ true → a ≡ true
-      first true b e = refl
-      first false b e = e
+  line-long g = leb-true keyLineSize (length input) (and-true (leb keyLineSize (length input)) _ g .0)
+
+  pub line-only : keyLine input .good ≡ true → Begins input
+  unfolding goodKey
+  line-only e =
+      let g = and-true (leb 33 (length input)) _ (rw line-good at e) in
+      let h = and-true (eqb (getD input 32 0) 10) _ (g .1) in
+      let l = leb-true 33 (length input) (g .0) in
+      let n : length (take 32 input) ≡ 32 = length-take-le 32 input (omega arith) in
+      let d = decoded (take 32 input) (h .1) (omega arith) in
+      let p : input ≡ take 32 input ++ getD input 32 0 ∷ drop 33 input = split-at input 32 0 (omega arith) in
+      record {
+        key = unhex (take 32 input);
+        rest = drop 33 input;
+        sixteen = omega (arith, d .len, n);
+        bytes = d .bytes;
+        is = p ∙ rw (eqb-true (getD input 32 0) 10 (h .0), d .back);
+      }
 
 pub line-made : (key rest : List ℕ) → Bytes key → length key ≡ 16
     → keyLine (hexOf key ++ 10 ∷ rest) ≡ record { good = true; key = key }

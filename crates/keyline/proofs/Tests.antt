@@ -13,10 +13,9 @@ use Rattle.hex.specs.Hex.{allDigits, unhex}
 use Rattle.hex.specs.Promise.{number, stored, readOf, ReadOf}
 use Rattle.hex.specs.declared.answer.Read.{Read}
 use Rattle.hex.proofs.Index.{unhex-length}
-use Rattle.run.specs.Line.{newline}
 use Rattle.keyline.specs.declared.KeyLine.{KeyLine}
 use Rattle.keyline.specs.Sizes.{keySize, keyDigits, keyLineSize}
-use Rattle.keyline.specs.KeyLine.{goodKey, keyOf, keyLine}
+use Rattle.keyline.specs.KeyLine.{keyEnd, goodKey, keyOf, keyLine}
 
 abbrev bad : KeyLine
 bad = record { good = false; key = replicate keySize 0 }
@@ -27,18 +26,18 @@ module _ (input : List ℕ) where
   too-short h = rw (lt-leb keyLineSize (length input) h)
 
   module _ (long : keyLineSize ≤ length input) where
-    pub no-newline : (getD input keyDigits 0 ≡ newline → ⊥) → bad ≡ keyLine input
+    pub no-newline : (getD input keyDigits 0 ≡ keyEnd → ⊥) → bad ≡ keyLine input
     unfolding keyLine goodKey
-    no-newline h = rw (le-leb keyLineSize (length input) long, ne-eqb (getD input keyDigits 0) newline h)
+    no-newline h = rw (le-leb keyLineSize (length input) long, ne-eqb (getD input keyDigits 0) keyEnd h)
 
-    module _ (ended : getD input keyDigits 0 ≡ newline) {r : Read} {key : List ℕ}
+    module _ (ended : getD input keyDigits 0 ≡ keyEnd) {r : Read} {key : List ℕ}
         (w : ReadOf (take keyDigits input) (replicate keySize 0) r key) where
       digits : length (take keyDigits input) ≡ keyDigits
       digits = length-take-le keyDigits input (omega arith)
 
       is-good : goodKey input ≡ allDigits (take keyDigits input)
       unfolding goodKey
-      is-good = rw (le-leb keyLineSize (length input) long, eq-eqb (getD input keyDigits 0) newline ended)
+      is-good = rw (le-leb keyLineSize (length input) long, eq-eqb (getD input keyDigits 0) keyEnd ended)
 
       numbered : number r ≡ cond (allDigits (take keyDigits input)) done notDigit
       unfolding firstFailing

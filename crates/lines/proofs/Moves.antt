@@ -45,7 +45,7 @@ module _ (s : List ℕ) (from to : ℕ) where
   part-short = omega (arith, length-take (to - from) (drop from s), length-drop from s)
 
 -- as many as there are
-pub take-own : (k : ℕ) (l : List ℕ) → take (length (take k l)) l ≡ take k l
+take-own : (k : ℕ) (l : List ℕ) → take (length (take k l)) l ≡ take k l
 take-own k l =
     ap (take (length (take k l))) (sym (take-append-drop k l)) ∙ take-append-seam (take k l) (drop k l)
 

@@ -37,7 +37,7 @@ no-space (c ∷ cs) h = go (eqb c space) refl h (no-space cs)
 
 -- ---- a place
 
-pub index-within : (v : ℕ) (l : List ℕ) → indexOf v l ≤ length l
+index-within : (v : ℕ) (l : List ℕ) → indexOf v l ≤ length l
 index-within v [] = omega arith
 index-within v (x ∷ xs) = go (eqb x v) (index-within v xs)
   where

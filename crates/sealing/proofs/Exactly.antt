@@ -1,6 +1,6 @@
 -- A line is sealed exactly if it asks for a nonce, data and a message within the sizes: from the words for them each
 -- test passes, and tests that pass leave the words no choice.
-use Prim.Native.Nat.{ℕ, zero, suc, _+_, _/_, _≤_}
+use Prim.Native.Nat.{ℕ, _+_, _/_, _≤_}
 use mathlib.Core.Path.{_≡_, refl, sym, _∙_}
 use mathlib.Core.Logic.{_⊎_, inl, inr}
 use mathlib.Core.Bool.{Bool, true, false, cond, _&&_}
@@ -8,7 +8,7 @@ use mathlib.Core.List.{List, _∷_, _++_}
 use native.Mathlib.Omega.{arith}
 use lib.ListN.{length}
 use lib.Dec.{T, ltb, eqb}
-use borrow.Author.Tests.{le-leb, leb-true, eq-eqb, eqb-true}
+use borrow.Author.Tests.{le-leb, leb-true, eqb-true}
 use Rattle.answers.specs.Sizes.{mostData, mostMessage}
 use Rattle.answers.proofs.Rows.{zero-pass, pass-zero}
 use Rattle.hex.proofs.Index.{unhex-length}

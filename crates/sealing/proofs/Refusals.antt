@@ -1,14 +1,28 @@
--- A line that asks for too much: which word is named, and why, with literals; the buffer is as it was.
-use Prim.Native.Nat.{ℕ, _≤_, _<_}
-use mathlib.Core.Path.{_≡_}
+-- Refusals: nothing is written, the first wrong word is named, and of a line that asks for too much it is said why,
+-- with literals.
+use Prim.Native.Nat.{ℕ, zero, suc, _≤_, _<_}
+use mathlib.Core.Path.{_≡_, refl}
+use mathlib.Core.Bool.{Bool, true, false, cond}
 use mathlib.Core.List.{List}
 use lib.ListN.{length}
+use lib.Dec.{eqb}
+use borrow.Author.Tests.{ne-eqb}
 use Rattle.buffers.specs.Bytes.{Bytes}
-use Rattle.lines.specs.Words.{wordOf}
+use Rattle.lines.specs.Words.{countOf, wordOf}
 use Rattle.lines.specs.Said.{sixteenNumber}
 use Rattle.lines.specs.Claims.{wordFor}
-use Rattle.sealing.specs.Line.{countNumber, dataNumber, messageNumber, sealLine}
-use Rattle.sealing.specs.Claims.{asking, Refused}
+use Rattle.sealing.specs.Line.{
+  countNumber,
+  nonceNumber,
+  dataNumber,
+  messageNumber,
+  Sealing,
+  unless,
+  written,
+  sealLine,
+}
+use Rattle.journal.specs.Writer.{writing, writeInto}
+use Rattle.sealing.specs.Claims.{asking, Refused, Untouched, Named, Codes}
 use Rattle.sealing.proofs.Asking.{
   part-passes,
   part-too-long,
@@ -54,3 +68,51 @@ module _ (key nonce ad message old : List ℕ) (nb : Bytes nonce) (ab : Bytes ad
         let x : messageNumber (asking nonce ad message) ≡ 10 = rw m (part-too-long message mb 256 _ l) in
         let y : dataNumber (asking nonce ad message) ≡ 0 = rw d (part-passes ad ab 64 _ h) in
         record { report = rw (t, v, s, y, x); buffer = rw (t, v, s, y, x) }
+
+-- ---- any line
+
+-- a line that is not three words
+pub other-count : (key line old : List ℕ) → (countOf line ≡ 3 → ⊥) → Refused (sealLine key line old) 4 252 old
+unfolding sealLine
+other-count key line old n = let c = ne-eqb (countOf line) 3 n in record { report = rw c; buffer = rw c }
+
+pub named : (key line old : List ℕ) → countOf line ≡ 3 → Named key line old
+unfolding sealLine
+named key line old three =
+    record {
+      first = λ z. let x = ne-eqb (nonceNumber line) 0 z in record { report = rw (three, x); buffer = rw (three, x) };
+      second = λ n z.
+          let x = ne-eqb (dataNumber line) 0 z in record { report = rw (three, n, x); buffer = rw (three, n, x) };
+      third = λ n d z.
+          let x = ne-eqb (messageNumber line) 0 z in
+          record { report = rw (three, n, d, x); buffer = rw (three, n, d, x) };
+    }
+
+unless-kept : (word n : ℕ) (old : List ℕ) (rest : Sealing) → ((rest .report .number ≡ 0 → ⊥) → Untouched rest old)
+    → (unless word n old rest .report .number ≡ 0 → ⊥) → Untouched (unless word n old rest) old
+unless-kept word n old rest ih h = go (eqb n 0) h
+  where
+    no : Sealing
+    no = record { report = record { word = word; number = n; length = 0 }; buffer = old }
+
+    go : (b : Bool) → (cond {A = Sealing} b rest no .report .number ≡ 0 → ⊥)
+        → Untouched (cond {A = Sealing} b rest no) old
+    go true h = ih h
+    go false h = record { nothing = refl; buffer = refl }
+
+written-kept : (line old : List ℕ) (size k : ℕ) → (written (writing line old size k) .report .number ≡ 0 → ⊥)
+    → Untouched (written (writing line old size k)) old
+unfolding writing
+written-kept line old size zero h = absurd (h refl)
+written-kept line old size (suc k) h = record { nothing = refl; buffer = refl }
+
+-- with any number but 0 there is no length, and the buffer is as it was
+pub untouched : (key line old : List ℕ) → (sealLine key line old .report .number ≡ 0 → ⊥)
+    → Untouched (sealLine key line old) old
+unfolding sealLine writeInto
+untouched key line old =
+    unless-kept _ (countNumber line) old _ (unless-kept _ (nonceNumber line) old _
+    (unless-kept _ (dataNumber line) old _ (unless-kept _ (messageNumber line) old _ (written-kept _ old _ _))))
+
+pub codes : Codes
+codes = record { room = refl; empty = refl; sixteen = refl; three = refl }

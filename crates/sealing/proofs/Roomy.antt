@@ -1,28 +1,19 @@
 -- With room for the longest line a lack of room is never said: no word's number is 15, and the writer's test passes.
-use Prim.Native.Nat.{ℕ, zero, suc, _≤_}
-use mathlib.Core.Path.{_≡_, refl}
+use Prim.Native.Nat.{ℕ, _≤_}
+use mathlib.Core.Path.{_≡_}
 use mathlib.Core.Logic.{_⊎_, inl, inr}
 use mathlib.Core.Bool.{Bool, true, false, cond}
 use mathlib.Core.List.{List}
 use native.Mathlib.Omega.{arith}
 use lib.ListN.{length}
 use lib.Dec.{eqb}
-use borrow.Author.Tests.{le-leb, eqb-true}
+use borrow.Author.Tests.{le-leb}
 use Rattle.answers.proofs.Rows.{first-not, pass-zero}
 use Rattle.lines.specs.Words.{countOf, wordOf}
 use Rattle.lines.specs.Said.{bytesIn, sixteenRows}
 use Rattle.journal.specs.Line.{lineLength}
-use Rattle.journal.specs.Writer.{writerRows, writerNumber, writing, writeInto}
-use Rattle.sealing.specs.Line.{
-  partRows,
-  countNumber,
-  nonceNumber,
-  dataNumber,
-  messageNumber,
-  Sealing,
-  unless,
-  sealLine,
-}
+use Rattle.journal.specs.Writer.{writerRows, writerNumber, writeInto}
+use Rattle.sealing.specs.Line.{partRows, countNumber, nonceNumber, dataNumber, messageNumber, sealLine}
 use Rattle.sealing.specs.Wrong.{notThree}
 use Rattle.sealing.proofs.Tests.{said-of, written-number}
 use Rattle.sealing.proofs.Exactly.{part-passed}

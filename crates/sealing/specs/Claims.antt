@@ -5,7 +5,10 @@ use mathlib.Core.List.{List, _∷_, _++_}
 use lib.ListN.{length, drop}
 use Rattle.lines.specs.Claims.{wordFor}
 use Rattle.journal.specs.Line.{Fits, lineOf, lineLength}
-use Rattle.sealing.specs.Line.{Sealing}
+use Rattle.hex.specs.Promise.{noRoom}
+use Rattle.lines.specs.Said.{nothing, notSixteen}
+use Rattle.sealing.specs.Wrong.{notThree}
+use Rattle.sealing.specs.Line.{nonceNumber, dataNumber, messageNumber, Sealing, sealLine}
 
 abbrev pub asking : (nonce ad message : List ℕ) → List ℕ
 asking nonce ad message = wordFor nonce ++ 0x20 ∷ (wordFor ad ++ 0x20 ∷ wordFor message)
@@ -31,3 +34,23 @@ sealed key nonce ad message old =
 pub record Refused (s : Sealing) (word number : ℕ) (old : List ℕ) : Type 0 where
   pub report : s .report ≡ record { word = word; number = number; length = 0 }
   pub buffer : s .buffer ≡ old
+
+-- a number other than 0: nothing is written
+pub record Untouched (s : Sealing) (old : List ℕ) : Type 0 where
+  pub nothing : s .report .length ≡ 0
+  pub buffer : s .buffer ≡ old
+
+-- which word is named, where a line has three: the first, from the left, that something is wrong with
+pub record Named (key line old : List ℕ) : Type 0 where
+  pub first : (nonceNumber line ≡ 0 → ⊥) → Refused (sealLine key line old) 1 (nonceNumber line) old
+  pub second : nonceNumber line ≡ 0 → (dataNumber line ≡ 0 → ⊥)
+      → Refused (sealLine key line old) 2 (dataNumber line) old
+  pub third : nonceNumber line ≡ 0 → dataNumber line ≡ 0 → (messageNumber line ≡ 0 → ⊥)
+      → Refused (sealLine key line old) 3 (messageNumber line) old
+
+-- what is wrong, where the table has no number for it: four numbers that are not the table's, and no two alike
+pub record Codes : Type 0 where
+  pub room : noRoom ≡ 255
+  pub empty : nothing ≡ 254
+  pub sixteen : notSixteen ≡ 253
+  pub three : notThree ≡ 252

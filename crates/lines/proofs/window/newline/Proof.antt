@@ -1,7 +1,6 @@
 -- The part from 0 on is the buffer's front, and the rest is the search's own promise.
 use mathlib.Core.Path.{_∙_}
 use native.Mathlib.Nat.{sub-zero}
-use Rattle.run.specs.Line.{newline}
 use borrow.Author.Needs.{needs}
 use Rattle.lines.proofs.window.newline.Statement.{statement}
 use Rattle.lines.proofs.window.newline.Tie as tie
