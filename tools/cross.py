@@ -32,15 +32,18 @@ def c_compiler():
 
 def rustc(target=TARGET):
     """The rustc that RUSTC names, or the first one that has a standard library for the target (`*`: for any)."""
-    names = [os.environ["RUSTC"]] if "RUSTC" in os.environ else ["rustc", "/usr/bin/rustc"]
-    for name in names:
+    named = os.environ.get("RUSTC")
+    if named and not shutil.which(named):
+        print(f"RUSTC names {named}, and there is no such program", file=sys.stderr)
+        sys.exit(2)
+    for name in [named] if named else ["rustc", "/usr/bin/rustc"]:
         found = shutil.which(name)
         if not found:
             continue
         root = subprocess.run([found, "--print", "sysroot"], stdout=subprocess.PIPE, text=True).stdout.strip()
         if list(pathlib.Path(root, "lib", "rustlib").glob(f"{target}/lib/libstd-*.rlib")):
             return found
-    asked = f"RUSTC names {names[0]}: " if "RUSTC" in os.environ else ""
+    asked = f"RUSTC names {named}: " if named else ""
     wanted = "its standard library" if target == "*" else f"a standard library for {target}"
     raise Missing(f"{asked}no rustc with {wanted} is installed{HINT}")
 
