@@ -3,7 +3,18 @@
 use journal::read_line;
 use journal::write_line;
 use morus::Morus;
+use morus::Sealed;
+ghost use mathlib.Core.Path.{_≡_};
 ghost use Rattle.export.specs.Promise.{SealedInPlace, OpenedInPlace, SealedInto, OpenedInto, Wrote, Read};
+
+// A sealing's tag behind its pointer, and its number.
+fn stored(sealed: Sealed, tag: &mut [u8; 16]) -> u8
+    ensures { λ r. ⌜ record { number = r; tag = now (tag .exit) } ≡ sealed ⌝ }
+{
+    let t = sealed.tag;
+    *tag = t;
+    sealed.number
+}
 
 #[no_mangle]
 pub extern "C" fn votrikany_seal_in_place(
@@ -17,10 +28,7 @@ pub extern "C" fn votrikany_seal_in_place(
 {
     let k = *key;
     let n = *nonce;
-    let sealed = Morus::new(n, k).encrypt_in_place(text, ad);
-    let t = sealed.tag;
-    *tag = t;
-    sealed.number
+    stored(Morus::new(n, k).encrypt_in_place(text, ad), tag)
 }
 
 #[no_mangle]
@@ -52,10 +60,7 @@ pub extern "C" fn votrikany_seal(
 {
     let k = *key;
     let n = *nonce;
-    let sealed = Morus::new(n, k).encrypt(message, ad, out);
-    let t = sealed.tag;
-    *tag = t;
-    sealed.number
+    stored(Morus::new(n, k).encrypt(message, ad, out), tag)
 }
 
 #[no_mangle]

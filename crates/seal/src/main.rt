@@ -15,8 +15,8 @@ use lines::start;
 use morus::Key;
 use output::Waiting;
 
-// What a turn hands to the next: the input that waits to be read as lines, the lines that wait to be written, how many lines
-// have been read, the key, and whether nothing more is to be done.
+// What a turn hands to the next: the input that waits to be read as lines, the lines that wait to be written, how many
+// lines have been read, the key, and whether nothing more is to be done.
 struct Run {
     window: Window,
     waiting: Waiting,
@@ -44,8 +44,8 @@ fn with_key(line: &[u8], whole: bool, run: Run) -> Run {
     }
 }
 
-// One line of words, sealed behind what waits, or a word on standard error.
-fn with_words(line: &[u8], lines: u64, key: Key, out: &mut [u8], waiting: Waiting) -> Waiting {
+// Seals line number `lines` behind what waits, or says on standard error why not.
+fn seal(line: &[u8], lines: u64, key: Key, out: &mut [u8], waiting: Waiting) -> Waiting {
     let ready = output::with_room(out, waiting);
     let sealed = output::seal(key, line, out, ready);
     if sealed.number != DONE {
@@ -54,8 +54,8 @@ fn with_words(line: &[u8], lines: u64, key: Key, out: &mut [u8], waiting: Waitin
     output::with_line(out, ready, sealed.length)
 }
 
-// The same in a run. A line whose front was dropped is too long.
-fn with_next(line: &[u8], whole: bool, out: &mut [u8], run: Run) -> Run {
+// The run with one line of words more. One whose front was dropped is too long.
+fn with_words(line: &[u8], whole: bool, out: &mut [u8], run: Run) -> Run {
     let lines = std::num::wrapping_add_u64(run.lines, 1);
     let window = run.window;
     let before = run.waiting;
@@ -70,7 +70,7 @@ fn with_next(line: &[u8], whole: bool, out: &mut [u8], run: Run) -> Run {
             stopped: false,
         };
     }
-    let waiting = with_words(line, lines, key, out, before);
+    let waiting = seal(line, lines, key, out, before);
     Run {
         window,
         waiting,
@@ -80,13 +80,13 @@ fn with_next(line: &[u8], whole: bool, out: &mut [u8], run: Run) -> Run {
     }
 }
 
-// The line from the window's front to `end`, and its newline from there to `behind`.
+// The run with one line more, which ends at `end`; where its newline is there too, that ends at `behind`.
 fn with_line(text: &[u8], end: usize, behind: usize, out: &mut [u8], run: Run) -> Run {
     let w = run.window;
     if run.lines == 0 {
         return with_key(part(text, w.from, behind), !w.dropped, run);
     }
-    with_next(part(text, w.from, end), !w.dropped, out, run)
+    with_words(part(text, w.from, end), !w.dropped, out, run)
 }
 
 // Takes the next whole line, or reads more where none waits.
