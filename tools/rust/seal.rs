@@ -1,6 +1,5 @@
 //! The Rust side of the program `seal`: a key line and lines NONCE DATA MESSAGE in, their sealed lines out.
 #[allow(dead_code)] // the reader is not used here
-#[path = "../../tools/rust/journal.rs"]
 mod journal;
 
 use std::io::{BufRead, BufReader, Write};
