@@ -22,9 +22,8 @@ use Rattle.lines.specs.Said.{
   dash,
   digitsOf,
   bytesIn,
-  wordRows,
+  saidRows,
   SaidBytes,
-  sixteenRows,
   sixteenNumber,
   sixteenOf,
 }
@@ -49,7 +48,7 @@ module _ (word : List ℕ) where
 -- a word with nothing in it
 pub nothing-said : (word bytes : List ℕ) → length word ≡ 0
     → SaidBytes word bytes (record { number = nothing; count = 0 }) bytes
-unfolding digitsOf wordRows firstFailing
+unfolding digitsOf saidRows firstFailing
 nothing-said [] bytes e =
     let l = le-leb 0 (length bytes) (omega arith) in record { number = refl; count = rw l; buffer = rw l }
 nothing-said (x ∷ xs) bytes e = absurd (omega arith)
@@ -58,7 +57,7 @@ module _ (word bytes : List ℕ) (some : length word ≡ 0 → ⊥) {r : Read} {
     (w : ReadOf (digitsOf word) bytes r bytes') where
   -- as the digits' answer says
   pub said : SaidBytes word bytes (record { number = number r; count = stored r }) bytes'
-  unfolding wordRows firstFailing
+  unfolding saidRows firstFailing
   said =
       record {
         number = rw (lt-ltb 0 (length word) (omega arith)) (w .numbered);
@@ -118,7 +117,7 @@ sixteen word = eqb (length (digitsOf word) / 2) 16
 
 pub by-number : {word bytes : List ℕ} {r : Said} {bytes' : List ℕ} → SaidBytes word bytes r bytes'
     → r .number ≡ any (some word) (digits word) (even word) (room word (length bytes))
-unfolding wordRows firstFailing
+unfolding saidRows firstFailing
 by-number w = w .number
 
 -- a word with nothing wrong: its bytes are at the buffer's front
@@ -152,7 +151,7 @@ good {word} {bytes} {r} {bytes'} w e =
 
 module _ (word : List ℕ) where
   by-tests : sixteenNumber word ≡ exact (some word) (digits word) (even word) (sixteen word)
-  unfolding sixteenRows firstFailing
+  unfolding saidRows firstFailing
   by-tests = refl
 
   refused : {n : ℕ} → sixteenNumber word ≡ n → (n ≡ 0 → ⊥)

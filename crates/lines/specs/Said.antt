@@ -4,11 +4,11 @@ use mathlib.Core.Path.{_≡_}
 use mathlib.Core.Bool.{cond, _&&_}
 use mathlib.Core.List.{List, [], _∷_}
 use lib.ListN.{length, getD, replicate}
-use lib.Dec.{ltb, eqb}
+use lib.Dec.{leb, ltb, eqb}
 use Rattle.answers.specs.Numbers.{done, notDigit, odd}
 use Rattle.answers.specs.Rows.{Row, _else_, firstFailing}
 use Rattle.hex.specs.Hex.{allDigits, unhex}
-use Rattle.hex.specs.Promise.{stored, readOf, readRows, readInto}
+use Rattle.hex.specs.Promise.{noRoom, stored, readOf, readInto}
 use Rattle.lines.specs.declared.said.Said.{Said}
 use Rattle.lines.specs.declared.said.Sixteen.{Sixteen}
 
@@ -34,24 +34,31 @@ digitsOf word = cond (eqb (length word) 1 && eqb (getD word 0 0) dash) [] word
 abbrev pub bytesIn : (word : List ℕ) → List ℕ
 bytesIn word = unhex (digitsOf word)
 
--- into a buffer of `room` bytes: nothing, not a digit, odd, no room
-unfoldable pub wordRows : (word : List ℕ) → (room : ℕ) → List Row
-wordRows word room = (ltb 0 (length word) else nothing) ∷ readRows (digitsOf word) room
+-- nothing, not a digit, odd; then what is asked of the number of bytes
+unfoldable pub saidRows : (word : List ℕ) → (last : Row) → List Row
+saidRows word last =
+    (ltb 0 (length word) else nothing)
+    ∷ (allDigits (digitsOf word) else notDigit)
+    ∷ (eqb (length (digitsOf word) % 2) 0 else odd)
+    ∷ last
+    ∷ []
+
+-- at most so many bytes, and the number for more
+abbrev pub mostRows : (word : List ℕ) → (most longer : ℕ) → List Row
+mostRows word most longer = saidRows word (leb (length (digitsOf word) / 2) most else longer)
+
+abbrev pub mostNumber : (word : List ℕ) → (most longer : ℕ) → ℕ
+mostNumber word most longer = firstFailing (mostRows word most longer)
 
 pub record SaidBytes (word bytes : List ℕ) (r : Said) (bytes' : List ℕ) : Type 0 where
-  pub number : r .number ≡ firstFailing (wordRows word (length bytes))
+  pub number : r .number ≡ mostNumber word (length bytes) noRoom
   pub count : r .count ≡ stored (readOf (digitsOf word) (length bytes))
   pub buffer : bytes' ≡ readInto (digitsOf word) bytes
 
 -- ---- sixteen bytes
 
-unfoldable pub sixteenRows : (word : List ℕ) → List Row
-sixteenRows word =
-    (ltb 0 (length word) else nothing)
-    ∷ (allDigits (digitsOf word) else notDigit)
-    ∷ (eqb (length (digitsOf word) % 2) 0 else odd)
-    ∷ (eqb (length (digitsOf word) / 2) 16 else notSixteen)
-    ∷ []
+abbrev pub sixteenRows : (word : List ℕ) → List Row
+sixteenRows word = saidRows word (eqb (length (digitsOf word) / 2) 16 else notSixteen)
 
 abbrev pub sixteenNumber : (word : List ℕ) → ℕ
 sixteenNumber word = firstFailing (sixteenRows word)

@@ -13,11 +13,11 @@ use Rattle.buffers.specs.Bytes.{Bytes}
 use Rattle.hex.specs.Hex.{allDigits}
 use Rattle.hex.proofs.Laws.{coded}
 use Rattle.lines.specs.Words.{space, spacesIn, countOf, wordOf}
-use Rattle.lines.specs.Said.{notSixteen, digitsOf, bytesIn, sixteenRows, sixteenNumber}
+use Rattle.lines.specs.Said.{notSixteen, digitsOf, bytesIn, sixteenRows, sixteenNumber, saidRows, mostRows, mostNumber}
 use Rattle.lines.specs.Claims.{wordFor}
 use Rattle.lines.proofs.Parted.{last-word, first-word, next-word, spaces-joined}
 use Rattle.lines.proofs.Says.{Word, word}
-use Rattle.sealing.specs.Line.{partRows, partNumber, countNumber}
+use Rattle.sealing.specs.Line.{countNumber}
 use Rattle.sealing.specs.Claims.{asking}
 
 -- ---- the word for bytes
@@ -38,22 +38,22 @@ module _ (b : List ℕ) (h : Bytes b) where
   pub back : bytesIn (wordFor b) ≡ b
   back = rw (w .digits) (coded b h .back)
 
-  pub part-passes : (most longer : ℕ) → length b ≤ most → partNumber (wordFor b) most longer ≡ 0
-  unfolding partRows
+  pub part-passes : (most longer : ℕ) → length b ≤ most → mostNumber (wordFor b) most longer ≡ 0
+  unfolding saidRows
   part-passes most longer l =
-      pass-zero (partRows (wordFor b) most longer) (w .some, (all, (whole, (rw half (le-leb (length b) most l), tt))))
+      pass-zero (mostRows (wordFor b) most longer) (w .some, (all, (whole, (rw half (le-leb (length b) most l), tt))))
 
   pub sixteen-passes : length b ≡ 16 → sixteenNumber (wordFor b) ≡ 0
-  unfolding sixteenRows
+  unfolding saidRows
   sixteen-passes l =
       pass-zero (sixteenRows (wordFor b)) (w .some, (all, (whole, (rw half (eq-eqb (length b) 16 l), tt))))
 
-  pub part-too-long : (most longer : ℕ) → most < length b → partNumber (wordFor b) most longer ≡ longer
-  unfolding partRows firstFailing
+  pub part-too-long : (most longer : ℕ) → most < length b → mostNumber (wordFor b) most longer ≡ longer
+  unfolding saidRows firstFailing
   part-too-long most longer l = rw (w .some, all, whole, half, lt-leb (length b) most l)
 
   pub not-sixteen : (length b ≡ 16 → ⊥) → sixteenNumber (wordFor b) ≡ notSixteen
-  unfolding sixteenRows firstFailing
+  unfolding saidRows firstFailing
   not-sixteen l = rw (w .some, all, whole, half, ne-eqb (length b) 16 l)
 
 -- ---- the line that asks

@@ -13,7 +13,7 @@ use Rattle.answers.specs.Sizes.{mostData, mostMessage}
 use Rattle.answers.proofs.Rows.{zero-pass, pass-zero}
 use Rattle.hex.proofs.Index.{unhex-length}
 use Rattle.lines.specs.Words.{space, countOf, behindSpace, wordOf}
-use Rattle.lines.specs.Said.{digitsOf, bytesIn, sixteenRows, sixteenNumber}
+use Rattle.lines.specs.Said.{digitsOf, bytesIn, sixteenRows, sixteenNumber, saidRows, mostRows, mostNumber}
 use Rattle.lines.specs.Claims.{Says}
 use Rattle.lines.proofs.Parted.{last-word, parted}
 use Rattle.lines.proofs.Says.{word, says}
@@ -21,8 +21,6 @@ use Rattle.journal.specs.Line.{Fits, lineLength}
 use Rattle.journal.specs.Writer.{writerRows, writerNumber, writing, writeInto}
 use Rattle.journal.proofs.WriteLine.{writer-pass}
 use Rattle.sealing.specs.Line.{
-  partRows,
-  partNumber,
   countNumber,
   nonceNumber,
   dataNumber,
@@ -94,11 +92,11 @@ pub record Part (word : List ℕ) (most : ℕ) : Type 0 where
   pub says : Says word
   pub few : length (bytesIn word) ≤ most
 
-pub part-passed : (word : List ℕ) (most longer : ℕ) → T (ltb 0 longer && true) → partNumber word most longer ≡ 0
+pub part-passed : (word : List ℕ) (most longer : ℕ) → T (ltb 0 longer && true) → mostNumber word most longer ≡ 0
     → Part word most
-unfolding partRows
+unfolding saidRows
 part-passed word most longer l e =
-    let (some, (all, (whole, (room, none)))) = zero-pass (partRows word most longer) l e in
+    let (some, (all, (whole, (room, none)))) = zero-pass (mostRows word most longer) l e in
     let l = leb-true (length (digitsOf word) / 2) most room in
     record { says = says word some all whole; few = omega (arith, unhex-length (digitsOf word), l) }
 
@@ -108,7 +106,7 @@ record Nonce (word : List ℕ) : Type 0 where
   pub sixteen : length (bytesIn word) ≡ 16
 
 nonce-passed : (word : List ℕ) → sixteenNumber word ≡ 0 → Nonce word
-unfolding sixteenRows
+unfolding saidRows
 nonce-passed word e =
     let (some, (all, (whole, (room, none)))) = zero-pass (sixteenRows word) tt e in
     record {

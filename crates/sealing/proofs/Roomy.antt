@@ -10,10 +10,10 @@ use lib.Dec.{eqb}
 use borrow.Author.Tests.{le-leb}
 use Rattle.answers.proofs.Rows.{first-not, pass-zero}
 use Rattle.lines.specs.Words.{countOf, wordOf}
-use Rattle.lines.specs.Said.{bytesIn, sixteenRows}
+use Rattle.lines.specs.Said.{bytesIn, sixteenRows, saidRows, mostRows}
 use Rattle.journal.specs.Line.{lineLength}
 use Rattle.journal.specs.Writer.{writerRows, writerNumber, writeInto}
-use Rattle.sealing.specs.Line.{partRows, countNumber, nonceNumber, dataNumber, messageNumber, sealLine}
+use Rattle.sealing.specs.Line.{countNumber, nonceNumber, dataNumber, messageNumber, sealLine}
 use Rattle.sealing.specs.Wrong.{notThree}
 use Rattle.sealing.proofs.Tests.{said-of, written-number}
 use Rattle.sealing.proofs.Exactly.{part-passed}
@@ -26,16 +26,16 @@ not-count n e = go (eqb n 3) e
     go false e = omega arith
 
 not-nonce : (line : List ℕ) → nonceNumber line ≡ 15 → ⊥
-unfolding sixteenRows
+unfolding saidRows
 not-nonce line = first-not 15 (sixteenRows (wordOf 0 line)) (omega arith) tt
 
 not-data : (line : List ℕ) → dataNumber line ≡ 15 → ⊥
-unfolding partRows
-not-data line = first-not 15 (partRows (wordOf 1 line) _ _) (omega arith) tt
+unfolding saidRows
+not-data line = first-not 15 (mostRows (wordOf 1 line) _ _) (omega arith) tt
 
 not-message : (line : List ℕ) → messageNumber line ≡ 15 → ⊥
-unfolding partRows
-not-message line = first-not 15 (partRows (wordOf 2 line) _ _) (omega arith) tt
+unfolding saidRows
+not-message line = first-not 15 (mostRows (wordOf 2 line) _ _) (omega arith) tt
 
 writes : (n m room : ℕ) → n ≤ 64 → m ≤ 256 → 707 ≤ room → writerNumber n m room ≡ 0
 unfolding writerNumber writerRows

@@ -12,15 +12,13 @@ use Rattle.answers.specs.Rows.{firstFailing}
 use Rattle.hex.specs.Promise.{noRoom}
 use Rattle.lines.specs.declared.said.Said.{Said}
 use Rattle.lines.specs.Words.{countOf, wordOf}
-use Rattle.lines.specs.Said.{nothing, bytesIn, SaidBytes}
+use Rattle.lines.specs.Said.{nothing, bytesIn, SaidBytes, saidRows, mostNumber}
 use Rattle.lines.proofs.Digits.{any, some, digits, even, room, by-number}
 use Rattle.journal.specs.declared.Line.{Line}
 use Rattle.journal.specs.Writer.{writing}
 use Rattle.journal.specs.Promise.{LineWritten}
 use Rattle.sealing.specs.Wrong.{none, nonceWord, dataWord, messageWord, wholeLine, notThree}
 use Rattle.sealing.specs.Line.{
-  partRows,
-  partNumber,
   countNumber,
   nonceNumber,
   dataNumber,
@@ -44,12 +42,12 @@ longer-for false b c d longer = refl
 
 module _ {word bytes : List ℕ} {r : Said} {bytes' : List ℕ} (w : SaidBytes word bytes r bytes') where
   pub part-wrong : (longer : ℕ)
-      → cond (eqb (r .number) noRoom) longer (r .number) ≡ partNumber word (length bytes) longer
-  unfolding partRows firstFailing
+      → cond (eqb (r .number) noRoom) longer (r .number) ≡ mostNumber word (length bytes) longer
+  unfolding saidRows firstFailing
   part-wrong longer =
       rw (by-number w) (longer-for (some word) (digits word) (even word) (room word (length bytes)) longer)
 
-  pub part-fine : (longer : ℕ) → r .number ≡ 0 → partNumber word (length bytes) longer ≡ 0
+  pub part-fine : (longer : ℕ) → r .number ≡ 0 → mostNumber word (length bytes) longer ≡ 0
   part-fine longer e = sym (part-wrong longer) ∙ rw e
 
 -- the number in place of the lack of room is as little 0 as the word's own

@@ -1,32 +1,17 @@
 -- What a line of three words, NONCE DATA MESSAGE, is sealed to; or the first word, from the left, that is wrong.
-use Prim.Native.Nat.{ℕ, _/_, _%_}
+use Prim.Native.Nat.{ℕ}
 use mathlib.Core.Bool.{cond}
-use mathlib.Core.List.{List, [], _∷_}
-use lib.ListN.{length}
-use lib.Dec.{leb, ltb, eqb}
-use Rattle.answers.specs.Numbers.{done, notDigit, odd, dataTooLong, messageTooLong}
+use mathlib.Core.List.{List}
+use lib.Dec.{eqb}
+use Rattle.answers.specs.Numbers.{done, dataTooLong, messageTooLong}
 use Rattle.answers.specs.Sizes.{mostData, mostMessage}
-use Rattle.answers.specs.Rows.{Row, _else_, firstFailing}
-use Rattle.hex.specs.Hex.{allDigits}
 use Rattle.lines.specs.Words.{countOf, wordOf}
-use Rattle.lines.specs.Said.{nothing, digitsOf, bytesIn, sixteenNumber}
+use Rattle.lines.specs.Said.{bytesIn, mostNumber, sixteenNumber}
 use Rattle.journal.specs.Writer.{Writing, writeInto}
 use Rattle.sealing.specs.Wrong.{none, nonceWord, dataWord, messageWord, wholeLine, notThree}
 use Rattle.sealing.specs.declared.Sealed.{Sealed}
 
 -- ---- what is wrong with a word, 0 where nothing is
-
--- a word of at most so many bytes, and the number for more
-unfoldable pub partRows : (word : List ℕ) → (most tooLong : ℕ) → List Row
-partRows word most tooLong =
-    (ltb 0 (length word) else nothing)
-    ∷ (allDigits (digitsOf word) else notDigit)
-    ∷ (eqb (length (digitsOf word) % 2) 0 else odd)
-    ∷ (leb (length (digitsOf word) / 2) most else tooLong)
-    ∷ []
-
-abbrev pub partNumber : (word : List ℕ) → (most tooLong : ℕ) → ℕ
-partNumber word most tooLong = firstFailing (partRows word most tooLong)
 
 abbrev pub countNumber : (line : List ℕ) → ℕ
 countNumber line = cond (eqb (countOf line) 3) done notThree
@@ -35,10 +20,10 @@ abbrev pub nonceNumber : (line : List ℕ) → ℕ
 nonceNumber line = sixteenNumber (wordOf 0 line)
 
 abbrev pub dataNumber : (line : List ℕ) → ℕ
-dataNumber line = partNumber (wordOf 1 line) mostData dataTooLong
+dataNumber line = mostNumber (wordOf 1 line) mostData dataTooLong
 
 abbrev pub messageNumber : (line : List ℕ) → ℕ
-messageNumber line = partNumber (wordOf 2 line) mostMessage messageTooLong
+messageNumber line = mostNumber (wordOf 2 line) mostMessage messageTooLong
 
 -- ---- the line
 
