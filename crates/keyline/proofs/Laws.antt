@@ -1,11 +1,11 @@
 -- What a caller learns of the line that was read: whether it is good, then the key and the line's length. The line that
--- says a key is good and gives that key, whatever follows it, and no other line is good.
+-- says a key is good and gives that key, whatever follows it; no other line is good, and of a bad one zeros are given.
 use Prim.Native.Nat.{ℕ, _≤_}
-use mathlib.Core.Path.{_≡_, refl, _∙_}
+use mathlib.Core.Path.{_≡_, refl, sym, _∙_}
 use mathlib.Core.Bool.{Bool, true, false, cond}
 use mathlib.Core.List.{List, _∷_, _++_}
 use native.Mathlib.Omega.{arith}
-use lib.ListN.{length, getD, take, drop, length-append}
+use lib.ListN.{length, getD, take, drop, replicate, length-append}
 use lib.Seq.{take-at, getD-at, length-take-le, split-at}
 use lib.Dec.{leb, eqb}
 use borrow.Author.Tests.{le-leb, leb-true, eqb-true}
@@ -34,6 +34,11 @@ module _ (input : List ℕ) where
   pub line-long : goodKey input ≡ true → keyLineSize ≤ length input
   unfolding goodKey
   line-long g = leb-true keyLineSize (length input) (and-true (leb keyLineSize (length input)) _ g .0)
+
+  -- nothing of a bad line is handed out
+  pub line-bad : keyLine input .good ≡ false → keyLine input .key ≡ replicate 16 0
+  unfolding keyLine
+  line-bad b = rw (sym line-good ∙ b)
 
   pub line-only : keyLine input .good ≡ true → Begins input
   unfolding goodKey

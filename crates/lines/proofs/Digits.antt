@@ -1,13 +1,13 @@
 -- What a word says, from what reading its digits gives.
-use Prim.Native.Nat.{ℕ, zero, suc, _/_, _%_, _≤_}
+use Prim.Native.Nat.{ℕ, _/_, _%_, _≤_}
 use mathlib.Core.Path.{_≡_, refl, sym, ap, subst, _∙_}
 use mathlib.Core.Bool.{Bool, true, false, cond}
-use mathlib.Core.List.{List, [], _∷_, _++_, append-nil}
+use mathlib.Core.List.{List, [], _∷_, _++_}
 use native.Mathlib.Omega.{arith}
-use lib.ListN.{length, getD, take, drop, replicate}
-use lib.Seq.{take-all, take-at, take-length}
+use lib.ListN.{length, getD, take, drop}
+use lib.Seq.{take-at, take-length}
 use lib.Dec.{leb, ltb, eqb}
-use borrow.Author.Tests.{le-leb, lt-ltb, leb-true, leb-false, eq-eqb, ne-eqb}
+use borrow.Author.Tests.{le-leb, lt-ltb, ltb-false, leb-true, eq-eqb, ne-eqb}
 use Rattle.answers.specs.Numbers.{notDigit, odd}
 use Rattle.answers.specs.Rows.{firstFailing}
 use Rattle.hex.specs.Hex.{allDigits}
@@ -15,18 +15,7 @@ use Rattle.hex.specs.Promise.{noRoom, number, stored, readOf, ReadOf}
 use Rattle.hex.proofs.Index.{unhex-length}
 use Rattle.hex.specs.declared.answer.Read.{Read}
 use Rattle.lines.specs.declared.said.Said.{Said}
-use Rattle.lines.specs.declared.said.Sixteen.{Sixteen}
-use Rattle.lines.specs.Said.{
-  nothing,
-  notSixteen,
-  dash,
-  digitsOf,
-  bytesIn,
-  saidRows,
-  SaidBytes,
-  sixteenNumber,
-  sixteenOf,
-}
+use Rattle.lines.specs.Said.{nothing, dash, digitsOf, bytesIn, saidRows, SaidBytes}
 
 -- ---- the digits that a word stands for
 
@@ -68,30 +57,13 @@ module _ (word bytes : List ℕ) (some : length word ≡ 0 → ⊥) {r : Read} {
   pub said-as : {x : Read} → r ≡ x → SaidBytes word bytes (record { number = number x; count = stored x }) bytes'
   said-as e = subst (λ (x : Read). SaidBytes word bytes (record { number = number x; count = stored x }) bytes') e said
 
--- ---- sixteen bytes
+-- ---- a word's rows, by their tests
 
--- the rows of a word and of sixteen bytes, by their tests: they differ in the last
-abbrev pub any : (some digits even room : Bool) → ℕ
-any a b c d = cond a (cond b (cond c (cond d 0 noRoom) odd) notDigit) nothing
+-- `longer` is the number of the last
+abbrev pub tested : (longer : ℕ) → (some digits even last : Bool) → ℕ
+tested longer a b c d = cond a (cond b (cond c (cond d 0 longer) odd) notDigit) nothing
 
-abbrev exact : (some digits even sixteen : Bool) → ℕ
-exact a b c f = cond a (cond b (cond c (cond f 0 notSixteen) odd) notDigit) nothing
-
-no-room : (a b c d : Bool) → any a b c d ≡ noRoom → (d ≡ false) × (exact a b c false ≡ notSixteen)
-no-room true true true true e = absurd (omega arith)
-no-room true true true false e = (refl, refl)
-no-room true true false d e = absurd (omega arith)
-no-room true false c d e = absurd (omega arith)
-no-room false b c d e = absurd (omega arith)
-
-wrong : (a b c d f : Bool) → (any a b c d ≡ noRoom → ⊥) → (any a b c d ≡ 0 → ⊥) → exact a b c f ≡ any a b c d
-wrong true true true true f n z = absurd (z refl)
-wrong true true true false f n z = absurd (n refl)
-wrong true true false d f n z = refl
-wrong true false c d f n z = refl
-wrong false b c d f n z = refl
-
-all-fine : (a b c d : Bool) → any a b c d ≡ 0 → (a ≡ true) × (b ≡ true) × (c ≡ true) × (d ≡ true)
+pub all-fine : (a b c d : Bool) → tested noRoom a b c d ≡ 0 → (a ≡ true) × (b ≡ true) × (c ≡ true) × (d ≡ true)
 all-fine true true true true e = (refl, refl, refl, refl)
 all-fine true true true false e = absurd (omega arith)
 all-fine true true false d e = absurd (omega arith)
@@ -110,13 +82,10 @@ even word = eqb (length (digitsOf word) % 2) 0
 abbrev pub room : (word : List ℕ) → (most : ℕ) → Bool
 room word most = leb (length (digitsOf word) / 2) most
 
-abbrev sixteen : (word : List ℕ) → Bool
-sixteen word = eqb (length (digitsOf word) / 2) 16
-
 -- ---- what a caller learns
 
 pub by-number : {word bytes : List ℕ} {r : Said} {bytes' : List ℕ} → SaidBytes word bytes r bytes'
-    → r .number ≡ any (some word) (digits word) (even word) (room word (length bytes))
+    → r .number ≡ tested noRoom (some word) (digits word) (even word) (room word (length bytes))
 unfolding saidRows firstFailing
 by-number w = w .number
 
@@ -149,62 +118,28 @@ good {word} {bytes} {r} {bytes'} w e =
       bytes = rw b (take-at (bytesIn word) (drop (length (bytesIn word)) bytes) (r .count) (sym (c ∙ sym u)));
     }
 
-module _ (word : List ℕ) where
-  by-tests : sixteenNumber word ≡ exact (some word) (digits word) (even word) (sixteen word)
-  unfolding saidRows firstFailing
-  by-tests = refl
+-- ---- a refused word stores nothing
 
-  refused : {n : ℕ} → sixteenNumber word ≡ n → (n ≡ 0 → ⊥)
-      → record { number = n; bytes = replicate 16 0 } ≡ sixteenOf word
-  unfolding sixteenOf
-  refused {n} e z = rw (e, ne-eqb n 0 z)
+empty-digits : (word : List ℕ) → length word ≡ 0 → digitsOf word ≡ []
+unfolding digitsOf
+empty-digits [] e = refl
+empty-digits (x ∷ xs) e = absurd (omega arith)
 
-  module _ {r : Said} {bytes' : List ℕ} (w : SaidBytes word (replicate 16 0) r bytes') where
-    numbered : r .number ≡ any (some word) (digits word) (even word) (room word 16)
-    numbered = by-number w
+none-stored : (word : List ℕ) (most : ℕ)
+    → (tested noRoom (some word) (digits word) (even word) (room word most) ≡ 0 → ⊥)
+    → stored (readOf (digitsOf word) most) ≡ 0
+none-stored word most h = go (digits word) (even word) (room word most) (some word) refl refl refl refl h
+  where
+    go : (b c d a : Bool) → digits word ≡ b → even word ≡ c → room word most ≡ d → some word ≡ a
+        → (tested noRoom a b c d ≡ 0 → ⊥) → stored (readOf (digitsOf word) most) ≡ 0
+    go false c d a p q r s h = rw p
+    go true false d a p q r s h = rw (p, q)
+    go true true false a p q r s h = rw (p, q, r)
+    go true true true true p q r s h = absurd (h refl)
+    go true true true false p q r s h =
+        let e = empty-digits word (omega (arith, ltb-false 0 (length word) s)) in rw (p, q, r, e)
 
-    pub too-many : r .number ≡ noRoom → record { number = notSixteen; bytes = replicate 16 0 } ≡ sixteenOf word
-    too-many e =
-        let t = no-room (some word) (digits word) (even word) (room word 16) (rw numbered at e) in
-        let l = leb-false (length (digitsOf word) / 2) 16 (t .0) in
-        let f : sixteen word ≡ false = ne-eqb (length (digitsOf word) / 2) 16 (λ x. omega (arith, x, l)) in
-        refused (by-tests ∙ rw f (t .1)) (λ x. omega arith)
-
-    pub bad-word : (r .number ≡ noRoom → ⊥) → (r .number ≡ 0 → ⊥)
-        → record { number = r .number; bytes = replicate 16 0 } ≡ sixteenOf word
-    bad-word n z =
-        refused (by-tests ∙ wrong (some word) (digits word) (even word) (room word 16) (sixteen word)
-        (λ e. n (numbered ∙ e)) (λ e. z (numbered ∙ e)) ∙ sym numbered) z
-
-    pub too-few : r .number ≡ 0 → (r .count ≡ 16 → ⊥)
-        → record { number = notSixteen; bytes = replicate 16 0 } ≡ sixteenOf word
-    too-few e n =
-        let t = all-fine (some word) (digits word) (even word) (room word 16) (rw numbered at e) in
-        let k : r .count ≡ length (digitsOf word) / 2 = w .count ∙ rw (t .1, t .2, t .3) in
-        let f : sixteen word ≡ false = ne-eqb (length (digitsOf word) / 2) 16 (λ x. n (k ∙ x)) in
-        refused (by-tests ∙ rw (t .0, t .1, t .2, f)) (λ x. omega arith)
-
-    pub all-sixteen : r .number ≡ 0 → r .count ≡ 16 → record { number = 0; bytes = bytes' } ≡ sixteenOf word
-    unfolding sixteenOf
-    all-sixteen e n =
-        let t = all-fine (some word) (digits word) (even word) (room word 16) (rw numbered at e) in
-        let s : stored (readOf (digitsOf word) 16) ≡ 16 = sym (w .count) ∙ n in
-        let k : length (digitsOf word) / 2 ≡ 16 = sym (w .count ∙ rw (t .1, t .2, t .3)) ∙ n in
-        let z : sixteenNumber word ≡ 0 = by-tests ∙ rw (t .0, t .1, t .2, eq-eqb (length (digitsOf word) / 2) 16 k) in
-        let b : bytes' ≡ bytesIn word =
-        w .buffer ∙ rw (s, take-all 16 (bytesIn word) (omega (arith, k, unhex-length (digitsOf word))))
-        (append-nil (bytesIn word)) in
-        rw (z, b)
-
-  pub sixteen-number : sixteenOf word .number ≡ sixteenNumber word
-  unfolding sixteenOf
-  sixteen-number = go (sixteenNumber word)
-    where
-      go : (n : ℕ) → (cond {A = Sixteen} (eqb n 0) (record { number = 0; bytes = bytesIn word })
-          (record { number = n; bytes = replicate 16 0 })) .number ≡ n
-      go zero = refl
-      go (suc n) = rw (ne-eqb (suc n) 0 (λ e. omega arith))
-
-  pub sixteen-bytes : sixteenNumber word ≡ 0 → sixteenOf word .bytes ≡ bytesIn word
-  unfolding sixteenOf
-  sixteen-bytes e = rw e
+pub refused-word : {word bytes : List ℕ} {r : Said} {bytes' : List ℕ} → SaidBytes word bytes r bytes'
+    → (r .number ≡ 0 → ⊥) → (r .count ≡ 0) × (bytes' ≡ bytes)
+refused-word {word} {bytes} w h =
+    let z = none-stored word (length bytes) (λ e. h (by-number w ∙ e)) in (w .count ∙ z, w .buffer ∙ rw z)

@@ -7,13 +7,12 @@ use mathlib.Core.List.{List}
 use lib.ListN.{length}
 use lib.Dec.{eqb}
 use borrow.Author.Tests.{ne-eqb, eqb-true, eqb-false}
-use Rattle.answers.specs.Numbers.{notDigit, odd}
 use Rattle.answers.specs.Rows.{firstFailing}
 use Rattle.hex.specs.Promise.{noRoom}
 use Rattle.lines.specs.declared.said.Said.{Said}
 use Rattle.lines.specs.Words.{countOf, wordOf}
-use Rattle.lines.specs.Said.{nothing, bytesIn, SaidBytes, saidRows, mostNumber}
-use Rattle.lines.proofs.Digits.{any, some, digits, even, room, by-number}
+use Rattle.lines.specs.Said.{bytesIn, SaidBytes, saidRows, mostNumber}
+use Rattle.lines.proofs.Digits.{tested, some, digits, even, room, by-number}
 use Rattle.journal.specs.declared.Line.{Line}
 use Rattle.journal.specs.Writer.{writing}
 use Rattle.journal.specs.Promise.{LineWritten}
@@ -32,8 +31,8 @@ use Rattle.sealing.specs.Promise.{LineSealed}
 -- ---- a word
 
 -- the table's number in place of the lack of room
-longer-for : (a b c d : Bool) (longer : ℕ) → cond (eqb (any a b c d) noRoom) longer (any a b c d)
-    ≡ cond a (cond b (cond c (cond d 0 longer) odd) notDigit) nothing
+longer-for : (a b c d : Bool) (longer : ℕ)
+    → cond (eqb (tested noRoom a b c d) noRoom) longer (tested noRoom a b c d) ≡ tested longer a b c d
 longer-for true true true true longer = refl
 longer-for true true true false longer = refl
 longer-for true true false d longer = refl

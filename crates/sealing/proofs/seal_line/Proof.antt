@@ -8,7 +8,8 @@ use Rattle.answers.specs.Sizes.{mostData, mostMessage}
 use Rattle.lines.specs.Words.{countOf, wordOf}
 use Rattle.lines.specs.Said.{bytesIn, SaidBytes, sixteenOf}
 use Rattle.lines.specs.declared.said.Sixteen.{Sixteen}
-use Rattle.lines.proofs.Digits.{Good, good, sixteen-number, sixteen-bytes}
+use Rattle.lines.proofs.Digits.{Good, good}
+use Rattle.lines.proofs.Sixteens.{sixteen-number, sixteen-bytes}
 use Rattle.sealing.specs.Line.{nonceNumber, dataNumber, messageNumber}
 use Rattle.sealing.proofs.Tests.{
   part-wrong,

@@ -1,6 +1,6 @@
 -- Each return by the law of the tests that lead there.
 use mathlib.Core.Path.{_∙_}
-use Rattle.lines.proofs.Digits.{too-many, bad-word, too-few, all-sixteen}
+use Rattle.lines.proofs.Sixteens.{too-many, bad-word, too-few, all-sixteen}
 use borrow.Author.Needs.{needs}
 use Rattle.lines.proofs.said.sixteen_of.Statement.{statement}
 use Rattle.lines.proofs.said.sixteen_of.Tie as tie
