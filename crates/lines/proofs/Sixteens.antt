@@ -23,7 +23,8 @@ no-room true true false d e = absurd (omega arith)
 no-room true false c d e = absurd (omega arith)
 no-room false b c d e = absurd (omega arith)
 
-wrong : (a b c d f : Bool) → (tested noRoom a b c d ≡ noRoom → ⊥) → (tested noRoom a b c d ≡ 0 → ⊥) → tested notSixteen a b c f ≡ tested noRoom a b c d
+wrong : (a b c d f : Bool) → (tested noRoom a b c d ≡ noRoom → ⊥) → (tested noRoom a b c d ≡ 0 → ⊥)
+    → tested notSixteen a b c f ≡ tested noRoom a b c d
 wrong true true true true f n z = absurd (z refl)
 wrong true true true false f n z = absurd (n refl)
 wrong true true false d f n z = refl
