@@ -3,3 +3,4 @@ pub mod Index
 pub mod Answers
 pub mod Determined
 pub mod Laws
+pub mod Ranges

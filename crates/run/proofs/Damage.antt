@@ -109,6 +109,11 @@ module _ (read : Reader) (not-end : NotEnd read) (size : ℕ) (big : mostFrame �
       (before-here (length A) (before A .answers) rest (before A .places)
       ∙ rw (before-shifted (length A + 1) (run read T size), append-nil))
 
+  pub first-alike : (A X Y : List ℕ)
+      → answersBefore (length A + 1) (run read (A ++ newline ∷ X) size)
+      ≡ answersBefore (length A + 1) (run read (A ++ newline ∷ Y) size)
+  first-alike A X Y = first A X ∙ sym (first A Y)
+
   -- the answers to T's lines, behind any A and a newline, are those of T by itself, shifted
   pub isolated : (A T : List ℕ)
       → answersFrom (length A + 1) (run read (A ++ newline ∷ T) size)
@@ -133,6 +138,6 @@ module _ (read : Reader) (not-end : NotEnd read) (size : ℕ) (big : mostFrame �
       (answersFrom (length (P ++ newline ∷ X) + 1) (run read (P ++ newline ∷ (X ++ newline ∷ T)) size))
       (answersFrom (length (P ++ newline ∷ Y) + 1) (run read (P ++ newline ∷ (Y ++ newline ∷ T)) size))
   replaced P X Y T = (
-    first P (X ++ newline ∷ T) ∙ sym (first P (Y ++ newline ∷ T)),
+    first-alike P (X ++ newline ∷ T) (Y ++ newline ∷ T),
     rw (append-assoc P (newline ∷ X) (newline ∷ T), append-assoc P (newline ∷ Y) (newline ∷ T)) at (two-journals (P ++ newline ∷ X) (P ++ newline ∷ Y) T),
   )

@@ -1,4 +1,5 @@
 pub mod Newline
+pub mod Answers
 pub mod Rows
 pub mod Shift
 pub mod Progress
@@ -6,3 +7,4 @@ pub mod Run
 pub mod Starts
 pub mod Damage
 pub mod Lines
+pub mod Calls

@@ -10,6 +10,7 @@ use lib.Seq.{split-at, take-suc, take-take, take-append-seam}
 use lib.Dec.{eqb}
 use borrow.Author.Tests.{eqb-true, eqb-false, ne-eqb}
 use Rattle.run.specs.Line.{newline, newlineAt, textOf}
+use Rattle.run.specs.Answers.{NoNewline}
 
 -- no newline in it
 abbrev pub Plain : List ℕ → Type 0
@@ -80,14 +81,30 @@ text-line s t h e =
     )
 
 -- a text in which no byte is a newline
-pub no-newline : (s : List ℕ) → ((i : ℕ) → getD s i 0 ≡ newline → ⊥) → Plain s
-no-newline [] h = refl
-no-newline (x ∷ xs) h = rw (ne-eqb x newline (h 0)) (ap suc (no-newline xs (λ i. h (suc i))))
+pub plain-of : (s : List ℕ) → NoNewline s → Plain s
+plain-of [] h = refl
+plain-of (x ∷ xs) h =
+    rw (ne-eqb x newline (h 0 (omega arith))) (ap suc (plain-of xs (λ i l. h (suc i) (omega arith))))
 
-pub plain-at : (s : List ℕ) → Plain s → (i : ℕ) → i < length s → getD s i 0 ≡ newline → ⊥
+pub plain-at : (s : List ℕ) → Plain s → NoNewline s
 plain-at [] h i l e = omega arith
 plain-at (x ∷ xs) h zero l e = eqb-false x newline (plain-cons x xs h .0) e
 plain-at (x ∷ xs) h (suc i) l e = plain-at xs (plain-cons x xs h .1) i (omega arith) e
+
+-- a text before a newline, with none in it, is what the search finds
+pub record Found (s t : List ℕ) : Type 0 where
+  pub at : newlineAt s ≡ length t
+  pub inside : length t < length s
+  pub text : textOf s ≡ t
+
+pub text-found : (s text rest : List ℕ) → NoNewline text → s ≡ text ++ newline ∷ rest → Found s text
+text-found s text rest h e =
+    let n : newlineAt s ≡ length text = ap newlineAt e ∙ newlineAt-plain text rest (plain-of text h) in
+    record {
+      at = n;
+      inside = omega (arith, ap length e, length-append text (newline ∷ rest));
+      text = ap (λ (k : ℕ). take k s) n ∙ ap (take (length text)) e ∙ take-append-seam text (newline ∷ rest);
+    }
 
 -- ---- for the loop that searches
 

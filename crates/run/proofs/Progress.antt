@@ -5,30 +5,29 @@ use mathlib.Core.Logic.{_⊎_, inl, inr}
 use mathlib.Core.List.{List, [], _∷_, _++_}
 use native.Mathlib.Omega.{arith}
 use native.Mathlib.Nat.{eq-or-lt-of-le}
-use lib.ListN.{length, drop, length-drop}
+use lib.ListN.{length, length-drop}
 use borrow.Author.Tests.{ne-eqb}
 use Rattle.answers.specs.Sizes.{mostFrame}
 use Rattle.answers.specs.Numbers.{end}
-use Rattle.run.specs.Line.{textOf}
-use Rattle.run.specs.Read.{Reader, Reading, reading, refused, readLine, readAt}
+use Rattle.run.specs.Read.{Reader, Reading, reading, refused, readAt}
 use Rattle.run.specs.Run.{Entry, entry, runFrom, run}
 use Rattle.run.specs.Claims.{NotEnd, Every, Moves, Ends}
-use Rattle.run.proofs.Rows.{rows, at-end}
+use Rattle.run.proofs.Rows.{found-in, rows, at-end}
 
 module _ (read : Reader) (not-end : NotEnd read) (size : ℕ) (big : mostFrame ≤ size) where
   pub moves : (j : List ℕ) (p : ℕ) → p < length j
       → Moves j p (readAt read j p size .verdict .number) (readAt read j p size .next)
-  unfolding refused readLine
+  unfolding refused
   moves j p h =
       rows read j p size (λ (r : Reading). Moves j p (r .verdict .number) (r .next))
       (λ s. absurd (omega arith))
       (λ b l. absurd (omega arith))
       (λ b e. absurd (omega arith))
       (λ b l e. record { ahead = h; within = omega arith; not-end = omega arith })
-      (λ b l e. record {
+      (λ b l t T. record {
         ahead = omega arith;
-        within = omega (arith, length-drop p j);
-        not-end = not-end (textOf (drop p j)) size;
+        within = omega (arith, length-drop p j, found-in T .inside);
+        not-end = not-end t size;
       })
 
   -- calls enough to reach the end give one list

@@ -1,18 +1,21 @@
--- A reading by where its place is: each row of the table by the tests that lead to it, and all of them at once.
+-- A reading by where its place is: all rows at once, and each by the tests that lead to it. Each follows from the law of
+-- Answers, the other rows being ruled out.
 use Prim.Native.Nat.{ℕ, _+_, _-_, _≤_, _<_}
-use mathlib.Core.Path.{_≡_, refl}
-use mathlib.Core.Bool.{Bool, true, false, cond, not}
+use mathlib.Core.Path.{_≡_, refl, sym, _∙_}
 use mathlib.Core.List.{List}
 use native.Mathlib.Omega.{arith}
 use lib.ListN.{length, take, drop, length-drop}
-use lib.Dec.{leb, ltb, eqb}
-use borrow.Author.Tests.{le-ltb, lt-ltb, le-leb, lt-leb, eq-eqb, ne-eqb, ltb-true, ltb-false, leb-true, leb-false, eqb-true, eqb-false}
 use Rattle.answers.specs.Numbers.{noNewline, placeBeyond, bufferTooSmall, end}
 use Rattle.answers.specs.Sizes.{mostFrame}
-use Rattle.answers.specs.Rows.{firstFailing}
 use Rattle.run.specs.Line.{newlineAt}
-use Rattle.run.specs.Read.{Reader, Reading, reading, refused, bufferRows, placeRows, readLine, readBy, readAt}
-use Rattle.run.proofs.Newline.{ended}
+use Rattle.run.specs.Read.{Reader, Reading, reading, refused, readAt}
+use Rattle.run.specs.Answers.{NoNewline, TextAt, AnsweredAt}
+use Rattle.run.proofs.Newline.{plain-of, Found, text-found}
+use Rattle.run.proofs.Answers.{By, answered}
+
+-- the text at a place, as the search finds it
+pub found-in : {j : List ℕ} {place : ℕ} {t : List ℕ} → TextAt j place t → Found (drop place j) t
+found-in T = text-found _ _ (T .rest) (T .first) (T .is)
 
 module _ (read : Reader) (j : List ℕ) (place size : ℕ) where
   -- what holds of each row, under its tests, holds of the reading
@@ -20,68 +23,72 @@ module _ (read : Reader) (j : List ℕ) (place size : ℕ) where
       → (size < mostFrame → P (reading (refused bufferTooSmall size) place))
       → (mostFrame ≤ size → length j < place → P (reading (refused placeBeyond size) place))
       → (mostFrame ≤ size → place ≡ length j → P (reading (refused end size) place))
-      → (mostFrame ≤ size → place < length j
-      → length (drop place j) ≤ newlineAt (drop place j) → P (reading (refused noNewline size) (length j)))
-      → (mostFrame ≤ size → place < length j → newlineAt (drop place j) < length (drop place j)
-      → P (readLine read j place size))
+      → (mostFrame ≤ size → place < length j → NoNewline (drop place j)
+      → P (reading (refused noNewline size) (length j)))
+      → (mostFrame ≤ size → place < length j → (t : List ℕ) → TextAt j place t
+      → P (reading (read t size) (place + length t + 1)))
       → P (readAt read j place size)
-  unfolding readAt readBy placeRows bufferRows firstFailing
-  rows P p13 p12 p14 p11 line =
-      go (leb mostFrame size) (leb place (length j)) (eqb place (length j))
-      (ltb (newlineAt (drop place j)) (length (drop place j))) refl refl refl refl
+  unfolding refused
+  rows P p13 p12 p14 p11 p = go (answered read j place size)
     where
-      go : (b13 b12 b14 b11 : Bool) → leb mostFrame size ≡ b13 → leb place (length j) ≡ b12 → eqb place (length j) ≡ b14
-          → ltb (newlineAt (drop place j)) (length (drop place j)) ≡ b11
-          → P (readBy read j place size
-          (cond b13 (cond b12 (cond (not b14) (cond b11 0 noNewline) end) placeBeyond) bufferTooSmall))
-      go false b12 b14 b11 e13 e12 e14 e11 = p13 (leb-false _ _ e13)
-      go true false b14 b11 e13 e12 e14 e11 = p12 (leb-true _ _ e13) (leb-false _ _ e12)
-      go true true true b11 e13 e12 e14 e11 = p14 (leb-true _ _ e13) (eqb-true _ _ e14)
-      go true true false false e13 e12 e14 e11 =
-          let l = leb-true place (length j) e12 in
-          let n = eqb-false place (length j) e14 in
-          p11 (leb-true _ _ e13) (omega arith) (ltb-false _ _ e11)
-      go true true false true e13 e12 e14 e11 =
-          let l = leb-true place (length j) e12 in
-          let n = eqb-false place (length j) e14 in
-          line (leb-true _ _ e13) (omega arith) (ltb-true _ _ e11)
+      go : {x : Reading} → AnsweredAt (By read size) j place size x → P x
+      go (AnsweredAt.too-small s) = p13 s
+      go (AnsweredAt.beyond b l) = p12 b l
+      go (AnsweredAt.at-end b e) = p14 b e
+      go (AnsweredAt.unended b l n) = p11 b l n
+      go (AnsweredAt.line {text} b l t e) = rw e (p b l text t)
 
   -- ---- each row
 
   pub too-small : size < mostFrame → readAt read j place size ≡ reading (refused bufferTooSmall size) place
-  unfolding readAt readBy placeRows bufferRows firstFailing
-  too-small h = rw (lt-leb mostFrame size h)
+  too-small h =
+      rows (λ x. x ≡ reading (refused bufferTooSmall size) place)
+      (λ s. refl)
+      (λ b l. absurd (omega arith))
+      (λ b e. absurd (omega arith))
+      (λ b l n. absurd (omega arith))
+      (λ b l t T. absurd (omega arith))
 
   module _ (big : mostFrame ≤ size) where
     pub beyond : length j < place → readAt read j place size ≡ reading (refused placeBeyond size) place
-    unfolding readAt readBy placeRows bufferRows firstFailing
-    beyond h = rw (le-leb mostFrame size big, lt-leb place (length j) h)
+    beyond h =
+        rows (λ x. x ≡ reading (refused placeBeyond size) place)
+        (λ s. absurd (omega arith))
+        (λ b l. refl)
+        (λ b e. absurd (omega arith))
+        (λ b l n. absurd (omega arith))
+        (λ b l t T. absurd (omega arith))
 
     pub at-end : place ≡ length j → readAt read j place size ≡ reading (refused end size) place
-    unfolding readAt readBy placeRows bufferRows firstFailing
-    at-end e = rw (le-leb mostFrame size big, le-leb place (length j) (omega arith), eq-eqb place (length j) e)
+    at-end h =
+        rows (λ x. x ≡ reading (refused end size) place)
+        (λ s. absurd (omega arith))
+        (λ b l. absurd (omega arith))
+        (λ b e. refl)
+        (λ b l n. absurd (omega arith))
+        (λ b l t T. absurd (omega arith))
 
-    pub unended : place < length j → length (drop place j) ≤ newlineAt (drop place j)
+    pub unended : place < length j → newlineAt (drop place j) ≡ length (drop place j)
         → readAt read j place size ≡ reading (refused noNewline size) (length j)
-    unfolding readAt readBy placeRows bufferRows firstFailing
     unended h e =
-        rw (
-          le-leb mostFrame size big,
-          le-leb place (length j) (omega arith),
-          ne-eqb place (length j) (omega arith),
-          le-ltb (newlineAt (drop place j)) (length (drop place j)) e,
-        )
+        rows (λ x. x ≡ reading (refused noNewline size) (length j))
+        (λ s. absurd (omega arith))
+        (λ b l. absurd (omega arith))
+        (λ b e. absurd (omega arith))
+        (λ b l n. refl)
+        (λ b l t T. absurd (omega (arith, found-in T .at, found-in T .inside)))
 
-    pub found : place < length j → newlineAt (drop place j) < length (drop place j)
-        → readAt read j place size ≡ readLine read j place size
-    unfolding readAt readBy placeRows bufferRows firstFailing
-    found h e =
-        rw (
-          le-leb mostFrame size big,
-          le-leb place (length j) (omega arith),
-          ne-eqb place (length j) (omega arith),
-          lt-ltb (newlineAt (drop place j)) (length (drop place j)) e,
-        )
+    pub found : (t : List ℕ) → TextAt j place t
+        → readAt read j place size ≡ reading (read t size) (place + length t + 1)
+    found t T =
+        let f = found-in T in
+        let i : newlineAt (drop place j) < length (drop place j) = omega (arith, f .at, f .inside) in
+        rows (λ x. x ≡ reading (read t size) (place + length t + 1))
+        (λ s. absurd (omega arith))
+        (λ b l. absurd (omega (arith, length-drop place j)))
+        (λ b e. absurd (omega (arith, length-drop place j)))
+        (λ b l n. absurd (omega (arith, plain-of (drop place j) n)))
+        (λ b l t′ T′. rw (sym (found-in T′ .text) ∙ f .text) refl)
 
     -- ---- the last two, by where the search for the newline ended
 
@@ -91,7 +98,14 @@ module _ (read : Reader) (j : List ℕ) (place size : ℕ) where
 
       pub found-at : (stop ≡ length j → ⊥)
           → readAt read j place size ≡ reading (read (take (stop - place) (drop place j)) size) (stop + 1)
-      unfolding readLine
       found-at e =
-          let n : stop - place ≡ newlineAt (drop place j) = omega arith in
-          rw (n, is) (found h (omega (arith, ended j place stop is (omega arith), length-drop place j)))
+          rows (λ x. x ≡ reading (read (take (stop - place) (drop place j)) size) (stop + 1))
+          (λ s. absurd (omega arith))
+          (λ b l. absurd (omega arith))
+          (λ b e. absurd (omega arith))
+          (λ b l n. absurd (omega (arith, plain-of (drop place j) n, length-drop place j)))
+          (λ b l t T.
+          let f = found-in T in
+          let k : stop - place ≡ newlineAt (drop place j) = omega arith in
+          let n : place + length t + 1 ≡ stop + 1 = omega (arith, f .at) in
+          rw (k, f .text, n) refl)

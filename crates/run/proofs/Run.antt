@@ -6,16 +6,16 @@ use mathlib.Core.List.{List, [], _∷_, _++_, map}
 use native.Mathlib.Omega.{arith}
 use native.Mathlib.Nat.{zero-add, add-zero}
 use lib.ListN.{length, length-append}
-use lib.Seq.{take-append-seam, append-snoc}
+use lib.Seq.{append-snoc}
 use lib.Dec.{eqb}
 use borrow.Author.Tests.{ne-eqb}
 use Rattle.answers.specs.Sizes.{mostFrame}
 use Rattle.answers.specs.Numbers.{end, noNewline}
 use Rattle.run.specs.Line.{newline}
-use Rattle.run.specs.Read.{Reader, reading, refused, readLine, readAt}
+use Rattle.run.specs.Read.{Reader, reading, refused, readAt}
 use Rattle.run.specs.Run.{Entry, entry, runFrom, run, shiftEntry}
 use Rattle.run.specs.Claims.{NotEnd, Every}
-use Rattle.run.proofs.Newline.{Plain, newlineAt-plain}
+use Rattle.run.proofs.Newline.{Plain, plain-at}
 use Rattle.run.proofs.Rows.{at-end, unended, found}
 use Rattle.run.proofs.Shift.{run-shift}
 use Rattle.run.proofs.Progress.{fuel}
@@ -40,12 +40,8 @@ module _ (read : Reader) (size : ℕ) where
   -- a line's answer
   pub at-line : mostFrame ≤ size → (s t : List ℕ) → Plain s
       → readAt read (s ++ newline ∷ t) 0 size ≡ reading (read s size) (length s + 1)
-  unfolding readLine
   at-line big s t h =
-      let l = newlineAt-plain s t h in
-      found read (s ++ newline ∷ t) 0 size big (omega (arith, length-append s (newline ∷ t)))
-      (omega (arith, length-append s (newline ∷ t)))
-      ∙ rw (l, take-append-seam s (newline ∷ t), zero-add)
+      found read (s ++ newline ∷ t) 0 size big s (record { rest = t; is = refl; first = plain-at s h }) ∙ rw zero-add
 
 module _ (read : Reader) (not-end : NotEnd read) (size : ℕ) (big : mostFrame ≤ size) where
   -- the run of what stands behind a newline, shifted

@@ -5,7 +5,7 @@ use mathlib.Core.List.{List, [], _∷_, _++_, map}
 use lib.ListN.{length, replicate}
 use Rattle.answers.specs.Numbers.{end}
 use Rattle.run.specs.Line.{newline}
-use Rattle.run.specs.Read.{Verdict, Reader, reading, refused}
+use Rattle.run.specs.Read.{Verdict, Reader, Reading, reading, refused}
 use Rattle.run.specs.Run.{Entry, entry, run, shiftEntry}
 
 -- all that the laws ask of a reader: the end answer is not one of its own
@@ -28,6 +28,13 @@ pub record Moves (j : List ℕ) (p number next : ℕ) : Type 0 where
   pub ahead : p < next
   pub within : next ≤ length j
   pub not-end : number ≡ end → ⊥
+
+-- Calls from a place on, each but the first from the next place of the one before it, up to the one that says 14; and
+-- what they gave. `Call` is what a call at a place may give.
+pub data Calls (Call : ℕ → Reading → Type 0) : ℕ → List Entry → Type 0 where
+  last : {place : ℕ} {x : Reading} → Call place x → x .verdict .number ≡ 14 → Calls Call place (entry place x ∷ [])
+  more : {place : ℕ} {x : Reading} {es : List Entry} → Call place x → (x .verdict .number ≡ 14 → ⊥)
+      → Calls Call (x .next) es → Calls Call place (entry place x ∷ es)
 
 -- the run ends by call L + 1, in the end answer and no sooner
 pub record Ends (read : Reader) (j : List ℕ) (size : ℕ) : Type 0 where
