@@ -8,7 +8,9 @@ pub mod WriteLine
 pub mod Made
 pub mod Opened
 pub mod Promised
-pub mod RoundTrip
+pub mod Calls
 pub mod Refused
+pub mod Answers
+pub mod RoundTrip
 pub mod Kept
 pub mod Determined

@@ -15,10 +15,10 @@ use Rattle.hex.specs.Hex.{hexOf, unhex}
 use Rattle.hex.proofs.Laws.{coded, decoded}
 use Rattle.journal.specs.Frame.{nIn, mIn, nonceIn, adIn, cipherIn, tagIn}
 use Rattle.run.specs.Line.{newline, textOf}
-use Rattle.run.proofs.Newline.{Plain, newlineAt-plain, no-newline}
+use Rattle.run.proofs.Newline.{Plain, newlineAt-plain, plain-of}
 use Rattle.journal.specs.Line.{frameOf, lineOf, Fits, Made}
 use Rattle.answers.specs.Rows.{firstFailing}
-use Rattle.journal.specs.Reader.{tagRows, openedFrame, given, readText}
+use Rattle.journal.specs.Reader.{tagRows, opened, openedFrame, given, readText}
 use Rattle.journal.specs.Claims.{handed}
 use Rattle.journal.proofs.Frames.{Parts, parts, sound}
 use Rattle.journal.proofs.Rows.{GoodText, GoodFrame, line-pass, text-number, text-passes, frame-passes}
@@ -26,7 +26,7 @@ use Rattle.journal.proofs.Sizes.{frame-size}
 
 -- the digits of a frame have no newline, so a line's text is the digits
 pub digits-plain : (f : List ℕ) → Bytes f → Plain (hexOf f)
-digits-plain f h = no-newline (hexOf f) (coded f h .plain)
+digits-plain f h = plain-of (hexOf f) (λ i l. coded f h .plain i)
 
 text-back : (f : List ℕ) → Bytes f → textOf (hexOf f ++ (newline ∷ [])) ≡ hexOf f
 text-back f h = rw (newlineAt-plain (hexOf f) [] (digits-plain f h)) (take-append-seam (hexOf f) (newline ∷ []))
@@ -80,7 +80,7 @@ module _ (key : List ℕ) where
         record { least = omega arith; few = omega arith; within = omega arith; most = omega arith }
 
     tag-passes : (size : ℕ) → given key f size (firstFailing (tagRows key f)) ≡ handed key nonce ad message size
-    unfolding firstFailing tagRows given openedFrame handed
+    unfolding firstFailing tagRows given opened openedFrame handed
     tag-passes size =
         let P = S .are in
         let a : accepts key (nonceIn f) (adIn f) (cipherIn f) (tagIn f) ≡ true = rw (P .tagIs, P .bodyIs, P .adIs, P .nonceIs) (own key nonce ad message) in

@@ -1,11 +1,11 @@
 -- What the writer writes, the reader opens: the line at the front of the buffer is the line of its nonce, data and message, and such a line is opened.
-use Prim.Native.Nat.{ℕ, zero, suc, _+_, _-_, _≤_}
+use Prim.Native.Nat.{ℕ, _+_, _-_, _≤_}
 use mathlib.Core.Path.{_≡_, refl, sym, ap, _∙_}
 use mathlib.Core.List.{List, [], _∷_, _++_, map}
 use native.Mathlib.Omega.{arith}
 use native.Mathlib.Nat.{add-zero}
-use lib.ListN.{length, take, drop, replicate, length-append}
-use lib.Seq.{take-at, append-snoc}
+use lib.ListN.{length, take, replicate, length-append}
+use lib.Seq.{append-snoc}
 use Rattle.answers.specs.Sizes.{nonceSize, fixed, mostFrame}
 use Rattle.buffers.specs.Bytes.{Bytes}
 use Rattle.morus.specs.Seal.{sealTag}
@@ -21,8 +21,8 @@ use Rattle.run.proofs.Newline.{Plain}
 use Rattle.run.proofs.Shift.{read-shift}
 use Rattle.run.proofs.Run.{at-line, one-line}
 use Rattle.run.proofs.Damage.{isolated, shifts}
-use Rattle.journal.specs.Line.{frameOf, lineOf, lineLength, Fits}
-use Rattle.journal.specs.Writer.{writerNumber, writing, writeInto}
+use Rattle.journal.specs.Line.{frameOf, lineOf, Fits}
+use Rattle.journal.specs.Writer.{writerNumber}
 use Rattle.journal.specs.Reader.{opened, readText, readAt, run}
 use Rattle.journal.specs.Claims.{handed}
 use Rattle.journal.specs.Promise.{answerOf, LineWritten, LineRead}
@@ -30,23 +30,16 @@ use Rattle.journal.proofs.Frames.{frame-length}
 use Rattle.journal.proofs.Made.{digits-plain, is-sealed, line-opens}
 use Rattle.journal.proofs.Sizes.{line-size}
 use Rattle.journal.proofs.WriteLine.{writer-pass}
+use Rattle.journal.proofs.Answers.{number-is, write-outcome}
 use Rattle.journal.proofs.Rows.{not-end}
 
 -- ---- what was written
-
-writing-number : (line old : List ℕ) (size k : ℕ) → writing line old size k .report .number ≡ k
-unfolding writing
-writing-number line old size zero = refl
-writing-number line old size (suc k) = refl
 
 module _ {key nonce ad message line line' : List ℕ} {r : Line}
     (len : length nonce ≡ nonceSize) (bn : Bytes nonce) (ba : Bytes ad) (bm : Bytes message)
     (w : LineWritten key nonce ad message line r line') (z : r .number ≡ 0) where
   number : writerNumber (length ad) (length message) (length line) ≡ 0
-  unfolding writeInto
-  number =
-      let k = writerNumber (length ad) (length message) (length line) in
-      sym (writing-number (lineOf key nonce ad message) line (lineLength (length ad) (length message)) k) ∙ sym (ap (λ (a : Line). a .number) (w .report)) ∙ z
+  number = sym (number-is w) ∙ z
 
   fits : Fits nonce ad message
   fits =
@@ -55,12 +48,10 @@ module _ {key nonce ad message line line' : List ℕ} {r : Line}
 
   -- the line stands at the front, and its length was reported
   pub size-is : r .length ≡ length (lineOf key nonce ad message)
-  unfolding writeInto writing
-  size-is = ap (λ (a : Line). a .length) (w .report) ∙ rw number (sym (line-size key nonce ad message len))
+  size-is = write-outcome w .size z ∙ sym (line-size key nonce ad message len)
 
   pub front-is : take (r .length) line' ≡ lineOf key nonce ad message
-  unfolding writeInto writing
-  front-is = rw (w .buffer, number) (take-at (lineOf key nonce ad message) (drop (lineLength (length ad) (length message)) line) (r .length) (sym size-is))
+  front-is = write-outcome w .written z len .front
 
   -- ---- and is read
 

@@ -1,9 +1,9 @@
 -- The words of the theorems about lines that are opened and about refusals.
-use Prim.Native.Nat.{ℕ, _+_}
+use Prim.Native.Nat.{ℕ, _+_, _-_}
 use mathlib.Core.Path.{_≡_}
 use mathlib.Core.Logic.{_↔_}
-use mathlib.Core.List.{List}
-use lib.ListN.{length}
+use mathlib.Core.List.{List, _++_}
+use lib.ListN.{length, replicate}
 use Rattle.morus.specs.Seal.{sealTag}
 use Rattle.run.specs.Line.{lineAt}
 use Rattle.run.specs.Read.{Verdict, reading}
@@ -11,12 +11,19 @@ use Rattle.run.specs.Run.{Entry}
 use Rattle.journal.specs.declared.Line.{Line}
 use Rattle.journal.specs.Frame.{frameWith}
 use Rattle.journal.specs.Line.{Made}
-use Rattle.journal.specs.Reader.{opened}
+
+-- a front, then 0xaa up to the buffer's size
+abbrev pub filledBehind : (size : ℕ) → (front : List ℕ) → List ℕ
+filledBehind size front = front ++ replicate (size - length front) 170
 
 -- what is handed out for a nonce, data and a message
 unfoldable pub handed : (key nonce ad message : List ℕ) → (size : ℕ) → Verdict
-handed key nonce ad message size =
-    opened (length ad) (length message) size (frameWith nonce ad message (sealTag key nonce ad message))
+handed key nonce ad message size = record {
+  number = 0;
+  n = length ad;
+  m = length message;
+  buffer = filledBehind size (frameWith nonce ad message (sealTag key nonce ad message));
+}
 
 -- opened exactly if the line at the place is made by the sealing; and then what went in is handed out
 pub record Right (key j : List ℕ) (size : ℕ) (e : Entry) : Type 0 where

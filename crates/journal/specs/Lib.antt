@@ -4,3 +4,4 @@ pub mod Writer
 pub mod Reader
 pub mod Claims
 pub mod Promise
+pub mod Answers

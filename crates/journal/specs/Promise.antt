@@ -3,7 +3,7 @@ use Prim.Native.Nat.{ℕ}
 use mathlib.Core.Path.{_≡_}
 use mathlib.Core.List.{List}
 use lib.ListN.{length}
-use Rattle.run.specs.Read.{Verdict, Reading}
+use Rattle.run.specs.Read.{Verdict, Reading, reading}
 use Rattle.journal.specs.declared.Verdict as declared
 use Rattle.journal.specs.declared.Answer.{Answer}
 use Rattle.journal.specs.declared.Line.{Line}
@@ -25,6 +25,13 @@ placed v next = record { number = v .number; next = next; n = v .n; m = v .m }
 abbrev pub answerOf : Reading → Answer
 answerOf x = placed (saidOf (x .verdict)) (x .next)
 
+-- the other way: what a call gave and left in the buffer, as a verdict and as a reading
+abbrev pub verdictOf : declared.Verdict → (frame' : List ℕ) → Verdict
+verdictOf r frame' = record { number = r .number; n = r .n; m = r .m; buffer = frame' }
+
+abbrev pub readingOf : Answer → (frame' : List ℕ) → Reading
+readingOf r frame' = reading (record { number = r .number; n = r .n; m = r .m; buffer = frame' }) (r .next)
+
 -- what a call gave is the verdict v
 pub record Gives (v : Verdict) (r : declared.Verdict) (frame' : List ℕ) : Type 0 where
   pub said : r ≡ saidOf v
@@ -36,3 +43,12 @@ TextRead text key frame r frame' = Gives (readText key text (length frame)) r fr
 pub record LineRead (journal : List ℕ) (place : ℕ) (key frame : List ℕ) (r : Answer) (frame' : List ℕ) : Type 0 where
   pub answer : r ≡ answerOf (readAt key journal place (length frame))
   pub buffer : frame' ≡ readAt key journal place (length frame) .verdict .buffer
+
+-- what a call at a place gives, with some frame buffer of `size` bytes
+pub record Called (key journal : List ℕ) (size place : ℕ) (x : Reading) : Type 0 where
+  pub frame : List ℕ
+  pub frame' : List ℕ
+  pub r : Answer
+  pub sized : length frame ≡ size
+  pub read : LineRead journal place key frame r frame'
+  pub is : x ≡ readingOf r frame'

@@ -82,6 +82,14 @@ module _ (key nonce d : List ℕ) where
         rw (undone sealing-undoes s c .1, length-bytes) (sym (same-true t _ h)),
       )
 
+  -- every ciphertext is that of the message it gives
+  pub whole : (c : List ℕ) → seal key nonce d (unseal key nonce d c) ≡ c
+  unfolding unseal unsealFrom seal sealFrom
+  whole c = undone sealing-undoes (absorbed (start key nonce) d) c .0
+
+  pub accepted : (c t : List ℕ) → t ≡ sealTag key nonce d (unseal key nonce d c) → accepts key nonce d c t ≡ true
+  accepted c t e = rw e (rw (whole c) at (own (unseal key nonce d c)))
+
   -- it accepts exactly one tag, the defined one, in all of its bytes
   pub exactly : (m t : List ℕ) → accepts key nonce d (seal key nonce d m) t ≡ true → t ≡ sealTag key nonce d m
   exactly m t h = sym (only (seal key nonce d m) t h .1) ∙ ap (sealTag key nonce d) (back m)

@@ -8,16 +8,20 @@ use lib.ListN.{length, take, drop, length-drop}
 use Rattle.answers.specs.Numbers.{noNewline, placeBeyond, bufferTooSmall, end}
 use Rattle.answers.specs.Sizes.{mostFrame}
 use Rattle.run.specs.Line.{newlineAt}
-use Rattle.run.specs.Read.{Reader, Reading, reading, refused, readAt}
+use Rattle.run.specs.Read.{Verdict, Reader, Reading, reading, refused, readAt}
 use Rattle.run.specs.Answers.{NoNewline, TextAt, AnsweredAt}
 use Rattle.run.proofs.Newline.{plain-of, Found, text-found}
-use Rattle.run.proofs.Answers.{By, answered}
+use Rattle.run.proofs.Answers.{answered}
 
 -- the text at a place, as the search finds it
 pub found-in : {j : List ℕ} {place : ℕ} {t : List ℕ} → TextAt j place t → Found (drop place j) t
 found-in T = text-found _ _ (T .rest) (T .first) (T .is)
 
 module _ (read : Reader) (j : List ℕ) (place size : ℕ) where
+  -- what this reader says of a text
+  abbrev By : List ℕ → Verdict → Type 0
+  By t v = v ≡ read t size
+
   -- what holds of each row, under its tests, holds of the reading
   pub rows : (P : Reading → Type 0)
       → (size < mostFrame → P (reading (refused bufferTooSmall size) place))
@@ -29,9 +33,9 @@ module _ (read : Reader) (j : List ℕ) (place size : ℕ) where
       → P (reading (read t size) (place + length t + 1)))
       → P (readAt read j place size)
   unfolding refused
-  rows P p13 p12 p14 p11 p = go (answered read j place size)
+  rows P p13 p12 p14 p11 p = go (answered {Says = By} read j place size (λ t. refl))
     where
-      go : {x : Reading} → AnsweredAt (By read size) j place size x → P x
+      go : {x : Reading} → AnsweredAt By j place size x → P x
       go (AnsweredAt.too-small s) = p13 s
       go (AnsweredAt.beyond b l) = p12 b l
       go (AnsweredAt.at-end b e) = p14 b e

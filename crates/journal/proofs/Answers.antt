@@ -1,0 +1,191 @@
+-- What is answered is what its row says: by the tests in their order, the frame's, the text's and the writer's, and then for
+-- what each call promises. The place's rows are the run's.
+use Prim.Native.Nat.{ℕ, zero, suc, _+_, _%_}
+use mathlib.Core.Path.{_≡_, refl, sym, ap, ap₂, _∙_}
+use mathlib.Core.Bool.{Bool, true, false}
+use mathlib.Core.List.{List, _++_}
+use native.Mathlib.Omega.{arith}
+use lib.ListN.{length, take, drop}
+use lib.Seq.{take-at, drop-at}
+use lib.Dec.{leb, eqb}
+use borrow.Author.Tests.{leb-true, leb-false, eqb-true, eqb-false}
+use Rattle.answers.specs.Sizes.{fixed, mostData, mostMessage, mostFrame, mostDigits}
+use Rattle.answers.specs.Rows.{firstFailing}
+use Rattle.morus.specs.Seal.{accepts}
+use Rattle.morus.proofs.Laws.{unseal-length, only, accepted}
+use Rattle.hex.specs.Hex.{allDigits, unhex}
+use Rattle.hex.proofs.Laws.{decoded}
+use Rattle.hex.proofs.Ranges.{digits-are, bad-is}
+use Rattle.run.specs.Read.{refused, bufferRows}
+use Rattle.journal.specs.Frame.{nIn, mIn, nonceIn, adIn, cipherIn, tagIn}
+use Rattle.journal.specs.Reader.{textRows, frameRows, tagRows, lineRows, opened, openedFrame, given, readFrame, readText, readAt}
+use Rattle.journal.specs.Claims.{handed}
+use Rattle.journal.specs.Line.{lineOf, lineLength}
+use Rattle.journal.specs.Writer.{writerRows, writerNumber, writing, writeInto}
+use Rattle.journal.specs.Promise.{verdictOf, readingOf, TextRead, LineRead, LineWritten}
+use Rattle.journal.specs.declared.Verdict as declared
+use Rattle.journal.specs.declared.Answer.{Answer}
+use Rattle.journal.specs.declared.Line.{Line}
+use Rattle.journal.specs.Answers.{Framed, messageOf, tagOf, FrameAnswer, TextAnswer, TextOutcome, ReadOutcome, WriteAnswer, Placed, WriteOutcome}
+use Rattle.run.proofs.Answers.{answered}
+use Rattle.journal.proofs.Frames.{Sound, sound}
+use Rattle.journal.proofs.Rows.{text-blanks}
+use Rattle.journal.proofs.Sizes.{line-size}
+use Rattle.journal.proofs.Refused.{not-opened, not-written}
+
+-- ---- a frame
+
+module _ (key : List ℕ) (size : ℕ) (f : List ℕ) where
+  abbrev framed : Sound f → Framed f
+  framed S = record {
+    nonce = nonceIn f;
+    ad = adIn f;
+    cipher = cipherIn f;
+    tag = tagIn f;
+    sixteen = (S .nonce16, S .tag16);
+    is = sym (S .whole);
+  }
+
+  clash : true ≡ false → ⊥
+  clash e = let z : _≡_ {A = ℕ} 0 1 = cc in omega arith
+
+  -- what is handed out of an opened frame, by its parts
+  handed-is : (S : Sound f) → tagOf key (framed S) ≡ tagIn f
+      → handed key (nonceIn f) (adIn f) (messageOf key (framed S)) size ≡ opened (nIn f) (mIn f) size (openedFrame key f)
+  unfolding handed opened openedFrame
+  handed-is S t =
+      let m : length (messageOf key (framed S)) ≡ mIn f = unseal-length key (nonceIn f) (adIn f) (cipherIn f) ∙ S .bodyLength in
+      rw (t, m, S .adLength)
+
+  pub frame-answered : FrameAnswer key size f (readFrame key f size)
+  unfolding readFrame given frameRows tagRows firstFailing refused
+  frame-answered =
+      go (leb fixed (length f)) (leb (nIn f) mostData) (leb (fixed + nIn f) (length f)) (leb (mIn f) mostMessage)
+      (accepts key (nonceIn f) (adIn f) (cipherIn f) (tagIn f)) refl refl refl refl refl
+    where
+      go : (b7 b8 b9 b10 b1 : Bool) → leb fixed (length f) ≡ b7 → leb (nIn f) mostData ≡ b8
+          → leb (fixed + nIn f) (length f) ≡ b9 → leb (mIn f) mostMessage ≡ b10
+          → accepts key (nonceIn f) (adIn f) (cipherIn f) (tagIn f) ≡ b1
+          → FrameAnswer key size f (readFrame key f size)
+      go false b8 b9 b10 b1 e7 e8 e9 e10 e1 = rw e7 (FrameAnswer.short (leb-false _ _ e7))
+      go true false b9 b10 b1 e7 e8 e9 e10 e1 =
+          rw (e7, e8) (FrameAnswer.data-long (leb-true _ _ e7) (leb-false _ _ e8))
+      go true true false b10 b1 e7 e8 e9 e10 e1 =
+          rw (e7, e8, e9) (FrameAnswer.data-past (leb-true _ _ e7) (leb-true _ _ e8) (leb-false _ _ e9))
+      go true true true false b1 e7 e8 e9 e10 e1 =
+          let S = sound f (leb-true _ _ e9) in
+          let n = leb-true (nIn f) mostData e8 in
+          let m = leb-false (mIn f) mostMessage e10 in
+          rw (e7, e8, e9, e10)
+          (FrameAnswer.message-long (framed S) (omega (arith, S .adLength)) (omega (arith, S .bodyLength)))
+      go true true true true false e7 e8 e9 e10 e1 =
+          let S = sound f (leb-true _ _ e9) in
+          let n = leb-true (nIn f) mostData e8 in
+          let m = leb-true (mIn f) mostMessage e10 in
+          rw (e7, e8, e9, e10, e1)
+          (FrameAnswer.tag-differs (framed S) (omega (arith, S .adLength)) (omega (arith, S .bodyLength))
+          (λ e. clash (sym (accepted key (nonceIn f) (adIn f) (cipherIn f) (tagIn f) e) ∙ e1)))
+      go true true true true true e7 e8 e9 e10 e1 =
+          let S = sound f (leb-true _ _ e9) in
+          let n = leb-true (nIn f) mostData e8 in
+          let m = leb-true (mIn f) mostMessage e10 in
+          let t = only key (nonceIn f) (adIn f) (cipherIn f) (tagIn f) e1 .1 in
+          let a : FrameAnswer key size f (handed key (nonceIn f) (adIn f) (messageOf key (framed S)) size) =
+          FrameAnswer.opened (framed S) (omega (arith, S .adLength)) (omega (arith, S .bodyLength)) (sym t) in
+          rw (e7, e8, e9, e10, e1) (rw (handed-is S t) at a)
+
+-- ---- a line's text
+
+module _ (key : List ℕ) (size : ℕ) (text : List ℕ) where
+  pub text-answered : TextAnswer key size text (readText key text size)
+  unfolding readText readFrame given lineRows bufferRows textRows firstFailing refused
+  text-answered =
+      go (leb mostFrame size) (leb (length text) mostDigits) (allDigits text) (eqb (length text % 2) 0)
+      refl refl refl refl (frame-answered key size (unhex text))
+    where
+      go : (b13 b4 b5 b6 : Bool) → leb mostFrame size ≡ b13 → leb (length text) mostDigits ≡ b4 → allDigits text ≡ b5
+          → eqb (length text % 2) 0 ≡ b6 → FrameAnswer key size (unhex text) (readFrame key (unhex text) size)
+          → TextAnswer key size text (readText key text size)
+      go false b4 b5 b6 e13 e4 e5 e6 a = rw e13 (TextAnswer.too-small (leb-false _ _ e13))
+      go true false b5 b6 e13 e4 e5 e6 a =
+          rw (e13, e4) (TextAnswer.too-long (leb-true _ _ e13) (leb-false _ _ e4))
+      go true true false b6 e13 e4 e5 e6 a =
+          rw (e13, e4, e5) (TextAnswer.not-digit (leb-true _ _ e13) (leb-true _ _ e4) (bad-is text e5))
+      go true true true false e13 e4 e5 e6 a =
+          let o = eqb-false (length text % 2) 0 e6 in
+          rw (e13, e4, e5, e6)
+          (TextAnswer.odd (leb-true _ _ e13) (leb-true _ _ e4) (digits-are text e5) (omega arith))
+      go true true true true e13 e4 e5 e6 a =
+          let d = decoded text e5 (eqb-true (length text % 2) 0 e6) in
+          rw (e13, e4, e5, e6) (TextAnswer.frame (leb-true _ _ e13) (leb-true _ _ e4) (d .bytes) (sym (d .back)) a)
+
+-- ---- what the calls promise
+
+module _ {text key frame frame' : List ℕ} {r : declared.Verdict} where
+  pub text-outcome : TextRead text key frame r frame' → TextOutcome text key frame r frame'
+  text-outcome h =
+      let size = length frame in
+      let is : readText key text size ≡ verdictOf r frame' = ap₂ verdictOf (sym (h .said)) (sym (h .buffer)) in
+      record {
+        answer = rw is at (text-answered key size text);
+        refused = λ e. (rw is at (text-blanks key text size)) .blank e;
+      }
+
+module _ {j key frame frame' : List ℕ} {place : ℕ} {r : Answer} where
+  pub read-outcome : LineRead j place key frame r frame' → ReadOutcome j place key frame r frame'
+  read-outcome h =
+      let size = length frame in
+      let is : readAt key j place size ≡ readingOf r frame' = ap₂ readingOf (sym (h .answer)) (sym (h .buffer)) in
+      record {
+        answer = rw is at (answered {Says = TextAnswer key size} (readText key) j place size (text-answered key size));
+        refused = not-opened h;
+      }
+
+writer-answered : (n m room : ℕ) → WriteAnswer n m room (writerNumber n m room)
+unfolding writerNumber writerRows firstFailing
+writer-answered n m room = go (leb n mostData) (leb m mostMessage) (leb (lineLength n m) room) refl refl refl
+  where
+    go : (b8 b10 b15 : Bool) → leb n mostData ≡ b8 → leb m mostMessage ≡ b10 → leb (lineLength n m) room ≡ b15
+        → WriteAnswer n m room (writerNumber n m room)
+    go false b10 b15 e8 e10 e15 = rw e8 (WriteAnswer.data-long (leb-false _ _ e8))
+    go true false b15 e8 e10 e15 = rw (e8, e10) (WriteAnswer.message-long (leb-true _ _ e8) (leb-false _ _ e10))
+    go true true false e8 e10 e15 =
+        rw (e8, e10, e15) (WriteAnswer.no-room (leb-true _ _ e8) (leb-true _ _ e10) (leb-false _ _ e15))
+    go true true true e8 e10 e15 =
+        rw (e8, e10, e15) (WriteAnswer.done (leb-true _ _ e8) (leb-true _ _ e10) (leb-true _ _ e15))
+
+writing-number : (line old : List ℕ) (size k : ℕ) → writing line old size k .report .number ≡ k
+unfolding writing
+writing-number line old size zero = refl
+writing-number line old size (suc k) = refl
+
+module _ {key nonce ad message line line' : List ℕ} {r : Line} (w : LineWritten key nonce ad message line r line') where
+  pub number-is : r .number ≡ writerNumber (length ad) (length message) (length line)
+  unfolding writeInto
+  number-is =
+      ap (λ (a : Line). a .number) (w .report)
+      ∙ writing-number (lineOf key nonce ad message) line (lineLength (length ad) (length message)) _
+
+  size-is : r .number ≡ 0 → r .length ≡ lineLength (length ad) (length message)
+  unfolding writeInto writing
+  size-is z = ap (λ (a : Line). a .length) (w .report) ∙ rw (sym number-is ∙ z)
+
+  line-is : r .number ≡ 0 → line' ≡ lineOf key nonce ad message ++ drop (r .length) line
+  unfolding writeInto writing
+  line-is z = w .buffer ∙ rw (sym number-is ∙ z, size-is z)
+
+  placed : r .number ≡ 0 → length nonce ≡ 16 → Placed (lineOf key nonce ad message) (r .length) line line'
+  placed z nonce16 =
+      let l : length (lineOf key nonce ad message) ≡ r .length = line-size key nonce ad message nonce16 ∙ sym (size-is z) in
+      record {
+        front = ap (take (r .length)) (line-is z) ∙ take-at (lineOf key nonce ad message) (drop (r .length) line) (r .length) l;
+        behind = ap (drop (r .length)) (line-is z) ∙ drop-at (lineOf key nonce ad message) (drop (r .length) line) (r .length) l;
+      }
+
+  pub write-outcome : WriteOutcome key nonce ad message line r line'
+  write-outcome = record {
+    answer = rw number-is (writer-answered (length ad) (length message) (length line));
+    refused = not-written w;
+    size = size-is;
+    written = placed;
+  }

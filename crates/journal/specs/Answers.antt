@@ -1,0 +1,91 @@
+-- The numbers of the reader and of the writer, row by row: each with literals and every earlier test of its order
+-- negated. It stands apart from the rows that define them, so that what is bent there is seen here.
+use Prim.Native.Nat.{ℕ, _+_, _*_, _%_, _<_, _≤_}
+use mathlib.Core.Path.{_≡_}
+use mathlib.Core.List.{List, _∷_, _++_}
+use lib.ListN.{length, getD, take, drop}
+use Rattle.buffers.specs.Bytes.{Bytes}
+use Rattle.morus.specs.Seal.{sealTag, unseal}
+use Rattle.hex.specs.Hex.{hexOf}
+use Rattle.hex.specs.Claims.{HexDigits, NotHex}
+use Rattle.run.specs.Read.{Verdict, Reading}
+use Rattle.run.specs.Claims.{Blank}
+use Rattle.run.specs.Answers.{blank, AnsweredAt}
+use Rattle.journal.specs.declared.Verdict as declared
+use Rattle.journal.specs.declared.Answer.{Answer}
+use Rattle.journal.specs.declared.Line.{Line}
+use Rattle.journal.specs.Line.{lineOf}
+use Rattle.journal.specs.Claims.{handed, Untouched}
+use Rattle.journal.specs.Promise.{verdictOf, readingOf}
+
+-- ---- a frame, with a frame buffer of `size` bytes
+
+-- nonce (16), data count n (1), data (n), ciphertext (m), tag (16)
+pub record Framed (f : List ℕ) : Type 0 where
+  pub nonce : List ℕ
+  pub ad : List ℕ
+  pub cipher : List ℕ
+  pub tag : List ℕ
+  pub sixteen : (length nonce ≡ 16) × (length tag ≡ 16)
+  pub is : f ≡ nonce ++ (length ad ∷ (ad ++ (cipher ++ tag)))
+
+-- the message that its ciphertext gives, and the tag of that
+abbrev pub messageOf : (key : List ℕ) {f : List ℕ} → Framed f → List ℕ
+messageOf key F = unseal key (F .nonce) (F .ad) (F .cipher)
+
+abbrev pub tagOf : (key : List ℕ) {f : List ℕ} → Framed f → List ℕ
+tagOf key F = sealTag key (F .nonce) (F .ad) (messageOf key F)
+
+pub data FrameAnswer (key : List ℕ) (size : ℕ) (f : List ℕ) : Verdict → Type 0 where
+  short : length f < 33 → FrameAnswer key size f (blank 7 size)
+  data-long : 33 ≤ length f → 64 < getD f 16 0 → FrameAnswer key size f (blank 8 size)
+  data-past : 33 ≤ length f → getD f 16 0 ≤ 64 → length f < 33 + getD f 16 0 → FrameAnswer key size f (blank 9 size)
+  message-long : (F : Framed f) → length (F .ad) ≤ 64 → 256 < length (F .cipher)
+      → FrameAnswer key size f (blank 10 size)
+  tag-differs : (F : Framed f) → length (F .ad) ≤ 64 → length (F .cipher) ≤ 256 → (F .tag ≡ tagOf key F → ⊥)
+      → FrameAnswer key size f (blank 1 size)
+  opened : (F : Framed f) → length (F .ad) ≤ 64 → length (F .cipher) ≤ 256 → F .tag ≡ tagOf key F
+      → FrameAnswer key size f (handed key (F .nonce) (F .ad) (messageOf key F) size)
+
+-- ---- a line's text
+
+pub data TextAnswer (key : List ℕ) (size : ℕ) (text : List ℕ) : Verdict → Type 0 where
+  too-small : size < 353 → TextAnswer key size text (blank 13 size)
+  too-long : 353 ≤ size → 706 < length text → TextAnswer key size text (blank 4 size)
+  not-digit : 353 ≤ size → length text ≤ 706 → NotHex text → TextAnswer key size text (blank 5 size)
+  odd : 353 ≤ size → length text ≤ 706 → HexDigits text → length text % 2 ≡ 1
+      → TextAnswer key size text (blank 6 size)
+  frame : {f : List ℕ} {v : Verdict} → 353 ≤ size → length text ≤ 706 → Bytes f → text ≡ hexOf f
+      → FrameAnswer key size f v → TextAnswer key size text v
+
+pub record TextOutcome (text key frame : List ℕ) (r : declared.Verdict) (frame' : List ℕ) : Type 0 where
+  pub answer : TextAnswer key (length frame) text (verdictOf r frame')
+  pub refused : (r .number ≡ 0 → ⊥) → Blank (length frame) (r .n) (r .m) frame'
+
+-- ---- a place of the journal
+
+abbrev pub ReadAnswer : (key journal : List ℕ) → (place size : ℕ) → Reading → Type 0
+ReadAnswer key j place size = AnsweredAt (TextAnswer key size) j place size
+
+pub record ReadOutcome (j : List ℕ) (place : ℕ) (key frame : List ℕ) (r : Answer) (frame' : List ℕ) : Type 0 where
+  pub answer : ReadAnswer key j place (length frame) (readingOf r frame')
+  pub refused : (r .number ≡ 0 → ⊥) → Blank (length frame) (r .n) (r .m) frame'
+
+-- ---- writing n bytes of data and m of message into a line buffer of `room` bytes
+
+pub data WriteAnswer (n m room : ℕ) : ℕ → Type 0 where
+  data-long : 64 < n → WriteAnswer n m room 8
+  message-long : n ≤ 64 → 256 < m → WriteAnswer n m room 10
+  no-room : n ≤ 64 → m ≤ 256 → room < 2 * (33 + n + m) + 1 → WriteAnswer n m room 15
+  done : n ≤ 64 → m ≤ 256 → 2 * (33 + n + m) + 1 ≤ room → WriteAnswer n m room 0
+
+-- a line of `size` bytes at the front, and behind it the old bytes
+pub record Placed (line : List ℕ) (size : ℕ) (old now : List ℕ) : Type 0 where
+  pub front : take size now ≡ line
+  pub behind : drop size now ≡ drop size old
+
+pub record WriteOutcome (key nonce ad message line : List ℕ) (r : Line) (line' : List ℕ) : Type 0 where
+  pub answer : WriteAnswer (length ad) (length message) (length line) (r .number)
+  pub refused : (r .number ≡ 0 → ⊥) → Untouched line r line'
+  pub size : r .number ≡ 0 → r .length ≡ 2 * (33 + length ad + length message) + 1
+  pub written : r .number ≡ 0 → length nonce ≡ 16 → Placed (lineOf key nonce ad message) (r .length) line line'
