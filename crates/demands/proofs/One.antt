@@ -15,6 +15,7 @@ use Rattle.morus.specs.Seal.{accepts}
 use Rattle.morus.specs.Morus.{begun, lengthRows, intoRows, tagRows, Sealing, Opening}
 use Rattle.morus.proofs.Promises.{sealing-refused, opening-refused}
 use Rattle.morus.proofs.Laws.{accepted-by}
+use Rattle.journal.proofs.Answers.{text-outcome, read-outcome, write-outcome}
 use Rattle.demands.specs.One.{Short, SealAnswer, OpenAnswer, SealOutcome, OpenOutcome, Demand1}
 
 both : {d m : List ℕ} → ltb (length d) (2 ^ 61) ≡ true → ltb (length m) (2 ^ 61) ≡ true → Short d m
@@ -88,4 +89,7 @@ demand1 =
           (rw (as-long-then (length d) (length c) (tagRows (begun nonce key) d c t)) at s);
       encrypt = λ nonce key d m out s. seal-outcome d m out _ (seal-answer d m out) s;
       decrypt = λ nonce key d c t out s. open-outcome nonce key d c t out _ (open-answer nonce key d c t out) s;
+      read-text = λ text key frame h. text-outcome h;
+      read-line = λ j key frame place h. read-outcome h;
+      write-line = λ key nonce ad message line h. write-outcome h;
     }

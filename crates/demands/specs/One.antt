@@ -9,6 +9,11 @@ use mathlib.Core.List.{List}
 use lib.ListN.{length, getD, replicate}
 use Rattle.morus.specs.declared.Sealed.{Sealed}
 use Rattle.morus.specs.Seal.{accepts}
+use Rattle.journal.specs.declared.Verdict.{Verdict}
+use Rattle.journal.specs.declared.Answer.{Answer}
+use Rattle.journal.specs.declared.Line.{Line}
+use Rattle.journal.specs.Promise.{TextRead, LineRead, LineWritten}
+use Rattle.journal.specs.Answers.{TextOutcome, ReadOutcome, WriteOutcome}
 use Rattle.morus.specs.Morus.{begun, Encrypted, Decrypted, EncryptedInto, DecryptedInto}
 
 -- data and message, or ciphertext, are below 2^61 bytes; and not
@@ -46,3 +51,6 @@ pub record Demand1 : Type 0 where
   pub decrypt-in-place : (nonce key d c t : List ℕ) {r : ℕ} {m' : List ℕ} → Decrypted (begun nonce key) d c t r m' → OpenOutcome key nonce d c t c r m'
   pub encrypt : (nonce key d m out : List ℕ) {r : Sealed} {out' : List ℕ} → EncryptedInto (begun nonce key) d m out r out' → SealOutcome d m out r out'
   pub decrypt : (nonce key d c t out : List ℕ) {r : ℕ} {out' : List ℕ} → DecryptedInto (begun nonce key) d c t out r out' → OpenOutcome key nonce d c t out r out'
+  pub read-text : (text key frame : List ℕ) {r : Verdict} {frame' : List ℕ} → TextRead text key frame r frame' → TextOutcome text key frame r frame'
+  pub read-line : (j key frame : List ℕ) (place : ℕ) {r : Answer} {frame' : List ℕ} → LineRead j place key frame r frame' → ReadOutcome j place key frame r frame'
+  pub write-line : (key nonce ad message line : List ℕ) {r : Line} {line' : List ℕ} → LineWritten key nonce ad message line r line' → WriteOutcome key nonce ad message line r line'

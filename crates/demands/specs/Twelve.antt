@@ -2,15 +2,16 @@
 use Prim.Native.Nat.{ℕ, _+_, _^_}
 use mathlib.Core.Path.{_≡_}
 use mathlib.Core.List.{List, []}
-use lib.ListN.{length, replicate}
+use lib.ListN.{length, getD}
 use Rattle.state.specs.Lane.{turn, word, lane4, zeroLane, laneOf}
 use Rattle.state.specs.Update.{state, zeroState, update}
 use Rattle.state.specs.Start.{constants}
 use Rattle.state.specs.Block.{keyStream}
 use Rattle.morus.specs.Seal.{lengths}
+use Rattle.run.specs.Answers.{blank}
+use Rattle.journal.specs.Frame.{mIn}
 use Rattle.journal.specs.Line.{lineOf}
-use Rattle.answers.specs.Rows.{firstFailing}
-use Rattle.journal.specs.Reader.{frameRows}
+use Rattle.journal.specs.Reader.{readFrame}
 
 pub record Twelve : Type 0 where
   pub case1 : turn 13 1 ≡ 8192
@@ -26,4 +27,5 @@ pub record Twelve : Type 0 where
   pub case9 : lengths 1 33 ≡ lane4 8 264 0 0
   pub case10 : (key nonce : List ℕ) → length nonce ≡ 16 → length (lineOf key nonce [] []) ≡ 67
   pub case11 : (key nonce ad message : List ℕ) → length nonce ≡ 16 → length ad ≡ 64 → length message ≡ 256 → length (lineOf key nonce ad message) ≡ 707
-  pub case12 : firstFailing (frameRows (replicate 353 0)) ≡ 10
+  -- whatever stands in its other bytes
+  pub case12 : (key f : List ℕ) (size : ℕ) → length f ≡ 353 → getD f 16 0 ≡ 0 → (mIn f ≡ 320) × (readFrame key f size ≡ blank 10 size)
