@@ -1,5 +1,5 @@
--- What is answered is what its row says: by the tests in their order, the frame's, the text's and the writer's, and then for
--- what each call promises. The place's rows are the run's.
+-- What is answered is what its row says: by the tests in their order, the frame's, the text's and the writer's, and then
+-- for what each call promises. The place's rows are the run's.
 use Prim.Native.Nat.{ℕ, zero, suc, _+_, _%_}
 use mathlib.Core.Path.{_≡_, refl, sym, ap, ap₂, _∙_}
 use mathlib.Core.Bool.{Bool, true, false}
@@ -18,7 +18,8 @@ use Rattle.hex.proofs.Laws.{decoded}
 use Rattle.hex.proofs.Ranges.{digits-are, bad-is}
 use Rattle.run.specs.Read.{refused, bufferRows}
 use Rattle.journal.specs.Frame.{nIn, mIn, nonceIn, adIn, cipherIn, tagIn}
-use Rattle.journal.specs.Reader.{textRows, frameRows, tagRows, lineRows, opened, openedFrame, given, readFrame, readText, readAt}
+use Rattle.journal.specs.Reader.{textRows, frameRows, tagRows, lineRows}
+use Rattle.journal.specs.Reader.{opened, openedFrame, given, readFrame, readText, readAt}
 use Rattle.journal.specs.Claims.{handed}
 use Rattle.journal.specs.Line.{lineOf, lineLength}
 use Rattle.journal.specs.Writer.{writerRows, writerNumber, writing, writeInto}
@@ -26,7 +27,8 @@ use Rattle.journal.specs.Promise.{verdictOf, readingOf, TextRead, LineRe
 use Rattle.journal.specs.declared.Verdict as declared
 use Rattle.journal.specs.declared.Answer.{Answer}
 use Rattle.journal.specs.declared.Line.{Line}
-use Rattle.journal.specs.Answers.{Framed, messageOf, tagOf, FrameAnswer, TextAnswer, TextOutcome, ReadOutcome, WriteAnswer, Placed, WriteOutcome}
+use Rattle.journal.specs.Answers.{Framed, messageOf, tagOf, FrameAnswer, TextAnswer, WriteAnswer, Placed}
+use Rattle.journal.specs.Answers.{TextOutcome, ReadOutcome, WriteOutcome}
 use Rattle.run.proofs.Answers.{answered}
 use Rattle.journal.proofs.Frames.{Sound, sound}
 use Rattle.journal.proofs.Rows.{text-blanks}
@@ -51,10 +53,12 @@ module _ (key : List ℕ) (size : ℕ) (f : List ℕ) where
 
   -- what is handed out of an opened frame, by its parts
   handed-is : (S : Sound f) → tagOf key (framed S) ≡ tagIn f
-      → handed key (nonceIn f) (adIn f) (messageOf key (framed S)) size ≡ opened (nIn f) (mIn f) size (openedFrame key f)
+      → handed key (nonceIn f) (adIn f) (messageOf key (framed S)) size
+      ≡ opened (nIn f) (mIn f) size (openedFrame key f)
   unfolding handed opened openedFrame
   handed-is S t =
-      let m : length (messageOf key (framed S)) ≡ mIn f = unseal-length key (nonceIn f) (adIn f) (cipherIn f) ∙ S .bodyLength in
+      let m : length (messageOf key (framed S)) ≡ mIn f =
+      unseal-length key (nonceIn f) (adIn f) (cipherIn f) ∙ S .bodyLength in
       rw (t, m, S .adLength)
 
   pub frame-answered : FrameAnswer key size f (readFrame key f size)
@@ -176,10 +180,13 @@ module _ {key nonce ad message line line' : List ℕ} {r : Line} (w : LineWritte
 
   placed : r .number ≡ 0 → length nonce ≡ 16 → Placed (lineOf key nonce ad message) (r .length) line line'
   placed z nonce16 =
-      let l : length (lineOf key nonce ad message) ≡ r .length = line-size key nonce ad message nonce16 ∙ sym (size-is z) in
+      let line-text = lineOf key nonce ad message in
+      let rest = drop (r .length) line in
+      let l : length (lineOf key nonce ad message) ≡ r .length =
+      line-size key nonce ad message nonce16 ∙ sym (size-is z) in
       record {
-        front = ap (take (r .length)) (line-is z) ∙ take-at (lineOf key nonce ad message) (drop (r .length) line) (r .length) l;
-        behind = ap (drop (r .length)) (line-is z) ∙ drop-at (lineOf key nonce ad message) (drop (r .length) line) (r .length) l;
+        front = ap (take (r .length)) (line-is z) ∙ take-at line-text rest (r .length) l;
+        behind = ap (drop (r .length)) (line-is z) ∙ drop-at line-text rest (r .length) l;
       }
 
   pub write-outcome : WriteOutcome key nonce ad message line r line'

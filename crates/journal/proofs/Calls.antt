@@ -1,5 +1,5 @@
--- Calls of the reader from place 0, each from the next place of the one before, up to 14: what they give is the run. Each
--- call gives the reading at its place.
+-- Calls of the reader from place 0, each from the next place of the one before, up to 14: what they give is the run.
+-- Each call gives the reading at its place.
 use Prim.Native.Nat.{ℕ, _≤_}
 use mathlib.Core.Path.{_≡_, refl, ap, ap₂, _∙_}
 use mathlib.Core.List.{List}

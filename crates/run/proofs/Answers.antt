@@ -1,5 +1,5 @@
--- What is said at a place is what its row says. The one proof that goes by the rows of the definition; every other law of a
--- reading follows from this one.
+-- What is said at a place is what its row says. The one proof that goes by the rows of the definition; every other law of
+-- a reading follows from this one.
 use Prim.Native.Nat.{ℕ, suc, _+_, _<_}
 use mathlib.Core.Path.{_≡_, refl}
 use mathlib.Core.Bool.{Bool, true, false}
@@ -45,8 +45,9 @@ answered {Says} read j place size says =
         let l = leb-true place (length j) e12 in
         let n = eqb-false place (length j) e14 in
         let h = ltb-true (newlineAt (drop place j)) (length (drop place j)) e11 in
-        let k : length (textOf (drop place j)) ≡ newlineAt (drop place j) = length-take-le _ (drop place j) (omega arith) in
+        let k : length (textOf (drop place j)) ≡ newlineAt (drop place j) =
+        length-take-le _ (drop place j) (omega arith) in
         let a : AnsweredAt Says j place size
-            (reading (read (textOf (drop place j)) size) (place + length (textOf (drop place j)) + 1)) =
+        (reading (read (textOf (drop place j)) size) (place + length (textOf (drop place j)) + 1)) =
         AnsweredAt.line (leb-true _ _ e13) (omega arith) (text-here j place h) (says (textOf (drop place j))) in
         rw (e13, e12, e14, e11) (rw k at a)

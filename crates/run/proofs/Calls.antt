@@ -56,7 +56,8 @@ module _ (read : Reader) (not-end : NotEnd read) (size : ℕ) (big : mostFrame �
             → ((q : ℕ) → q ≤ length j → length j < k + q → Calls Call q (runFrom read j size k q))
             → Calls Call p (runFrom read j size (suc k) p)
         go (inl e) ih =
-            let n : readAt read j p size .verdict .number ≡ end = ap (λ (x : Reading). x .verdict .number) (at-end read j p size big e) in
+            let n : readAt read j p size .verdict .number ≡ end =
+            ap (λ (x : Reading). x .verdict .number) (at-end read j p size big e) in
             rw (eq-eqb (readAt read j p size .verdict .number) end n) (Calls.last (is p) n)
         go (inr i) ih =
             let m = moves read not-end size big j p i in

@@ -1,5 +1,5 @@
--- A reading by where its place is: all rows at once, and each by the tests that lead to it. Each follows from the law of
--- Answers, the other rows being ruled out.
+-- A reading by where its place is: all rows at once, and each by the tests that lead to it. Each follows from the law
+-- of Answers, the other rows being ruled out.
 use Prim.Native.Nat.{ℕ, _+_, _-_, _≤_, _<_}
 use mathlib.Core.Path.{_≡_, refl, sym, _∙_}
 use mathlib.Core.List.{List}

@@ -1,5 +1,5 @@
--- What is said at a place, row by row: each with literals and every earlier test negated, in the order 13, 12, 14, 11. It
--- stands apart from the rows that define a reading, so that what is bent there is seen here.
+-- What is said at a place, row by row: each with literals and every earlier test negated, in the order 13, 12, 14, 11.
+-- It stands apart from the rows that define a reading, so that what is bent there is seen here.
 use Prim.Native.Nat.{ℕ, _+_, _<_, _≤_}
 use mathlib.Core.Path.{_≡_}
 use mathlib.Core.List.{List, _∷_, _++_}
