@@ -1,4 +1,4 @@
-"""Checks that are counted, for tests/gate-programs and tests/gate-scripts."""
+"""Checks that are counted, for the tests of the gate that are written in Python."""
 import sys
 
 failures = 0

@@ -1,6 +1,6 @@
 -- A line is sealed exactly if it asks for a nonce, data and a message within the sizes: from the words for them each
 -- test passes, and tests that pass leave the words no choice.
-use Prim.Native.Nat.{ℕ, _+_, _/_, _≤_}
+use Prim.Native.Nat.{ℕ, _/_, _≤_}
 use mathlib.Core.Path.{_≡_, refl, sym, _∙_}
 use mathlib.Core.Logic.{_⊎_, inl, inr}
 use mathlib.Core.Bool.{Bool, true, false, cond, _&&_}
