@@ -6,6 +6,7 @@ code: on another machine this uses the cross tools that tools/install-cross inst
 needs it is left out. Exit status: 0 all that could run passed, 1 something did not.
 """
 import pathlib
+import re
 import subprocess
 import sys
 import tempfile
@@ -43,6 +44,17 @@ def from_c(room, archive):
         failed("examples/library.c writes something else than tests/library/example.stdout")
     print("gate-library: examples/library.c, compiled with warnings as errors, writes what it must")
     print("gate-library: " + c_program(room, archive, LIBRARY / "refusals.c").decode().strip())
+    stack(c_program(room, archive, LIBRARY / "stack.c").decode().strip())
+
+
+def stack(said):
+    """What was measured is less than the header says."""
+    header = (cross.ROOT / "include" / "votrikany.h").read_text()
+    bound = int(re.search(r"less than ([\d,]+) bytes in every call", header)[1].replace(",", ""))
+    most = int(re.search(r"at most (\d+) bytes", said)[1])
+    if most >= bound:
+        failed(f"{said}, and include/votrikany.h says less than {bound}")
+    print("gate-library: " + said)
 
 
 def rust_program(room, name, source, *words):

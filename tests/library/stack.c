@@ -1,0 +1,158 @@
+/* How much stack the six functions need. Each call runs on a stack of its own that was painted before, twice, in two
+ * colours: the bytes from the lowest one that has lost its paint up are counted, with what starting the call takes. */
+#define _XOPEN_SOURCE 700
+#include <stdio.h>
+#include <string.h>
+#include <ucontext.h>
+#include "votrikany.h"
+
+enum { ROOM = 65536, LONG = 5000 };
+
+static const uint8_t key[16] = { 1, 2, 3 }, nonce[16] = { 4, 5, 6 };
+static uint8_t data[LONG], text[LONG], out[LONG], tag[16], line[800], frame[400], stack[ROOM];
+static size_t data_length, text_length, out_length, line_length, place, next, n, m;
+static uint8_t number;
+static size_t calls, most;
+static int failed;
+
+static void seal_in_place(void)
+{
+    number = votrikany_seal_in_place(key, nonce, data, data_length, text, text_length, tag);
+}
+
+static void open_in_place(void)
+{
+    number = votrikany_open_in_place(key, nonce, data, data_length, text, text_length, tag);
+}
+
+static void seal(void)
+{
+    number = votrikany_seal(key, nonce, data, data_length, text, text_length, out, out_length, tag);
+}
+
+static void open_sealed(void)
+{
+    number = votrikany_open(key, nonce, data, data_length, out, text_length, tag, text, out_length);
+}
+
+static void write_line(void)
+{
+    number = votrikany_write_line(key, nonce, data, data_length, text, text_length, line, sizeof line, &line_length);
+}
+
+static void read_line(void)
+{
+    number = votrikany_read_line(line, line_length, place, key, frame, sizeof frame, &next, &n, &m);
+}
+
+static size_t used(void (*call)(void), uint8_t paint)
+{
+    static ucontext_t here, there;
+    size_t kept = 0;
+    memset(stack, paint, sizeof stack);
+    getcontext(&there);
+    there.uc_stack.ss_sp = stack;
+    there.uc_stack.ss_size = sizeof stack;
+    there.uc_link = &here;
+    makecontext(&there, call, 0);
+    swapcontext(&here, &there);
+    while (kept < sizeof stack && stack[kept] == paint)
+        kept++;
+    return sizeof stack - kept;
+}
+
+/* A call changes what it works on, so before the second colour everything is put back. */
+static void measure(void (*call)(void), uint8_t wanted, const char *what)
+{
+    static uint8_t old_text[LONG], old_out[LONG], old_tag[16];
+    memcpy(old_text, text, sizeof text), memcpy(old_out, out, sizeof out), memcpy(old_tag, tag, sizeof tag);
+    size_t first = used(call, 0x5a);
+    memcpy(text, old_text, sizeof text), memcpy(out, old_out, sizeof out), memcpy(tag, old_tag, sizeof tag);
+    size_t second = used(call, 0xa5);
+    size_t larger = first > second ? first : second;
+    calls++;
+    if (larger > most)
+        most = larger;
+    if (number != wanted) {
+        printf("stack: %s answers %d and not %d\n", what, number, wanted);
+        failed = 1;
+    }
+}
+
+static void good(size_t data_bytes, size_t text_bytes)
+{
+    data_length = data_bytes;
+    text_length = out_length = text_bytes;
+    measure(seal_in_place, 0, "seal_in_place");
+    measure(open_in_place, 0, "open_in_place");
+    measure(seal, 0, "seal");
+    measure(open_sealed, 0, "open");
+    if (data_bytes <= VOTRIKANY_MOST_DATA && text_bytes <= VOTRIKANY_MOST_MESSAGE) {
+        measure(write_line, 0, "write_line");
+        measure(read_line, 0, "read_line");
+    }
+}
+
+static void cipher_refused(void)
+{
+    data_length = 33;
+    text_length = out_length = 300;
+    measure(seal, 0, "seal");
+    tag[15] ^= 1;
+    measure(open_sealed, VOTRIKANY_TAG_DIFFERS, "open, another tag");
+    measure(open_in_place, VOTRIKANY_TAG_DIFFERS, "open_in_place, another tag");
+    out_length = 299;
+    measure(seal, VOTRIKANY_OTHER_LENGTH, "seal, another length");
+    measure(open_sealed, VOTRIKANY_OTHER_LENGTH, "open, another length");
+    data_length = (size_t)1 << 61;
+    measure(seal, VOTRIKANY_TOO_LONG, "seal, 2^61 bytes");
+    measure(open_sealed, VOTRIKANY_TOO_LONG, "open, 2^61 bytes");
+    measure(seal_in_place, VOTRIKANY_TOO_LONG, "seal_in_place, 2^61 bytes");
+    measure(open_in_place, VOTRIKANY_TOO_LONG, "open_in_place, 2^61 bytes");
+}
+
+/* A line of `digits` zeros, with one byte of it as given. */
+static void line_refused(size_t digits, size_t at, char byte, uint8_t wanted, const char *what)
+{
+    memset(line, '0', sizeof line);
+    line[at] = (uint8_t)byte;
+    line[digits] = '\n';
+    line_length = digits + 1;
+    measure(read_line, wanted, what);
+}
+
+static void journal_refused(void)
+{
+    line_refused(707, 0, '0', VOTRIKANY_LINE_TOO_LONG, "707 digits");
+    line_refused(706, 705, 'g', VOTRIKANY_NOT_DIGIT, "a last digit that is none");
+    line_refused(705, 0, '0', VOTRIKANY_ODD, "705 digits");
+    line_refused(64, 0, '0', VOTRIKANY_FRAME_TOO_SHORT, "32 frame bytes");
+    line_refused(66, 32, '5', VOTRIKANY_DATA_TOO_LONG, "n = 80");
+    line_refused(66, 33, '1', VOTRIKANY_DATA_PAST_FRAME, "n = 1 in 33 frame bytes");
+    line_refused(706, 0, '0', VOTRIKANY_MESSAGE_TOO_LONG, "m = 320");
+    line_refused(706, 32, '4', VOTRIKANY_TAG_DIFFERS, "n = 64, m = 256, and a tag of zeros");
+    place = line_length;
+    measure(read_line, VOTRIKANY_END, "the end");
+    place = line_length + 1;
+    measure(read_line, VOTRIKANY_PLACE_BEYOND, "a place beyond the end");
+    place = 0;
+    line_length--;
+    measure(read_line, VOTRIKANY_NO_NEWLINE, "no newline");
+    data_length = 65;
+    measure(write_line, VOTRIKANY_DATA_TOO_LONG, "65 bytes of data");
+}
+
+int main(void)
+{
+    static const size_t lengths[] = { 0, 1, 31, 32, 33, 64, LONG };
+    for (size_t i = 0; i < sizeof lengths / sizeof *lengths; i++) {
+        for (size_t bytes = 0; bytes <= 257; bytes++)
+            good(lengths[i], bytes);
+        good(lengths[i], LONG);
+    }
+    cipher_refused();
+    journal_refused();
+    if (!failed)
+        printf("stack: in %d calls at most %d bytes of stack are used\n", (int)calls, (int)most);
+    return failed;
+}
