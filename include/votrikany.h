@@ -1,8 +1,8 @@
 /* Votrikany for C: sealing and opening with MORUS-1280-128, and the line journal.
  *
- * The functions are those of the crate `export`, proved to answer exactly what is said here. Build the library with
- * `rt staticlib export`, which writes target/staticlib/libexport.a: x86-64 Linux code that wants nothing but `memcpy` and
- * `memset` of the C library.
+ * The functions are those of the crate `export`, proved to keep its specs/Promise.antt; that this file says the same in
+ * words is read, and tested. Build the library with `rt staticlib export`, which writes target/staticlib/libexport.a:
+ * x86-64 Linux code that wants nothing but `memcpy` and `memset` of the C library.
  *
  * Numbers given back. Each function returns one of these; what it leaves is said with the function.
  *    0  done, opened                       8  over 64 bytes of data
@@ -113,7 +113,8 @@ uint8_t votrikany_write_line(const uint8_t *key, const uint8_t *nonce, const uin
  *   Any other number: every byte of `frame` is 0xaa, `*n` and `*m` are 0. `*next` is one past the line's newline for 1 and
  *   4 to 10, the journal's length for 11, and `place` for 12, 13 and 14.
  *   They are looked for in the order 13, 12, 14, 11, 4, 5, 6, 7, 8, 9, 10, 1.
- * From place 0, with `*next` for the next place, a journal of L bytes answers 14 by call L + 1.
+ * From place 0, with `*next` for the next place and a frame buffer of 353 bytes or more, a journal of L bytes answers
+ * 14 by call L + 1.
  */
 uint8_t votrikany_read_line(const uint8_t *journal, size_t journal_length, size_t place, const uint8_t *key,
                             uint8_t *frame, size_t frame_length, size_t *next, size_t *n, size_t *m);

@@ -1,4 +1,5 @@
--- Demand 1. No entry point has a premise and every call ends: that is the form of their contracts, and the check's to see.
+-- Demand 1. No entry point has a premise: no contract of theirs has a `requires`, which is no theorem, and which
+-- tests/gate-promises reads. Every call ends: a proof of a function is a proof that it returns.
 -- Bad input gets the number of the table. After any refused opening every byte of the output buffer is 0xaa; after a
 -- refused sealing it is untouched and the tag is zero.
 use Prim.Native.Nat.{ℕ, _<_, _≤_, _^_}

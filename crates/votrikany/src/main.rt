@@ -24,7 +24,7 @@ fn list(input: &[u8], out: &mut [u8])
     }
 }
 
-// The input's first 65,536 bytes fix its listing: a longer one is too big.
+// The input's first 65,536 bytes fix its listing: a longer one has a bad key line or is too big.
 fn main() {
     let mut input = io::large_buffer();
     let count = io::read_full(STDIN_FILENO, &mut input);
