@@ -27,6 +27,7 @@ FAULTS = (
     ("old_texts", EDIT, "old: ", "old: no such ", "stands 0 times"),
     ("old_texts", EDIT, "old: half(b, at, 4)", "old: half(b, at", "stands 3 times"),
     ("page", PAGE, "`half_twice`", "`half`", "the edit half_twice is not named"),
+    ("page", PAGE, "`find` | `firstFrom`", "`search` | `firstFrom`", "the function find is not named"),
     ("page", PAGE, "`all-alike` in Copies", "`all-alike` in Words", "all-alike is not in Words"),
     ("page", PAGE, "`allOver` (specs/Copy)", "`allOver` (specs/Copies)", "there is no specs/Copies"),
     ("page", PAGE, "| `sixteen` |", "| `seven" + "teenth` |", "is named and stands nowhere"),
