@@ -1,14 +1,13 @@
 -- The test of a text is that of its bytes, by their ranges: where it passes each byte is a digit, and where it fails
 -- some byte is none. By induction, from one byte's test.
 -- Assumes nothing.
-use Prim.Native.Nat.{ℕ, zero, suc, _<_}
+use Prim.Native.Nat.{ℕ, zero, suc}
 use mathlib.Core.Path.{_≡_, refl}
-use mathlib.Core.Logic.{_⊎_, inl, inr}
+use mathlib.Core.Logic.{inl, inr}
 use mathlib.Core.Bool.{Bool, true, false, _&&_, _||_}
 use mathlib.Core.List.{List, [], _∷_}
 use native.Mathlib.Omega.{arith}
 use lib.Dec.{leb}
-use lib.ListN.{length, getD}
 use borrow.Author.Tests.{le-leb}
 use Rattle.hex.specs.Hex.{isDigit, allDigits}
 use Rattle.hex.specs.Claims.{HexDigit, HexDigits, NotHex}
