@@ -3,19 +3,20 @@
 use Prim.Native.Nat.{ℕ, _≤_}
 use mathlib.Core.Path.{_≡_, refl, sym, _∙_}
 use mathlib.Core.Bool.{Bool, true, false, cond}
-use mathlib.Core.List.{List, _∷_, _++_}
+use mathlib.Core.List.{List, [], _∷_, _++_}
 use native.Mathlib.Omega.{arith}
 use lib.ListN.{length, getD, take, drop, replicate, length-append}
-use lib.Seq.{take-at, getD-at, length-take-le, split-at}
+use lib.Seq.{take-at, drop-at, getD-at, append-snoc, length-take-le, split-at}
 use lib.Dec.{leb, eqb}
 use borrow.Author.Tests.{le-leb, leb-true, eqb-true}
 use Rattle.buffers.specs.Bytes.{Bytes}
 use Rattle.hex.specs.Hex.{hexOf, unhex}
 use Rattle.hex.proofs.Digit.{and-true}
+use Rattle.hex.proofs.Index.{hex-length}
 use Rattle.hex.proofs.Laws.{coded, decoded}
 use Rattle.keyline.specs.declared.KeyLine.{KeyLine}
 use Rattle.keyline.specs.Sizes.{keyLineSize}
-use Rattle.keyline.specs.KeyLine.{goodKey, keyOf, keyLine, Begins}
+use Rattle.keyline.specs.KeyLine.{goodKey, keyOf, behindKey, keyLine, Begins}
 
 module _ (input : List ℕ) where
   pub line-good : keyLine input .good ≡ goodKey input
@@ -67,3 +68,9 @@ line-made key rest b l =
     let m : leb 33 (length (hexOf key ++ 10 ∷ rest)) ≡ true =
     le-leb 33 (length (hexOf key ++ 10 ∷ rest)) (omega (arith, n, length-append (hexOf key) (10 ∷ rest))) in
     rw (m, getD-at (hexOf key) 10 rest 0 32 n, t, c .digits, c .back)
+
+-- what follows the line is what stands behind it
+pub line-rest : (key rest : List ℕ) → length key ≡ 16 → behindKey (hexOf key ++ 10 ∷ rest) ≡ rest
+line-rest key rest l =
+    let n : length (hexOf key ++ 10 ∷ []) ≡ 33 = omega (arith, hex-length key, length-append (hexOf key) (10 ∷ [])) in
+    rw append-snoc at (drop-at (hexOf key ++ 10 ∷ []) rest 33 n)
