@@ -4,3 +4,4 @@ pub mod Answers
 pub mod Determined
 pub mod Laws
 pub mod Ranges
+pub mod Examples
