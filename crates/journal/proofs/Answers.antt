@@ -12,7 +12,7 @@ use borrow.Author.Tests.{leb-true, leb-false, eqb-true, eqb-false}
 use Rattle.answers.specs.Sizes.{fixed, mostData, mostMessage, mostFrame, mostDigits}
 use Rattle.answers.specs.Rows.{firstFailing}
 use Rattle.morus.specs.Seal.{accepts}
-use Rattle.morus.proofs.Laws.{unseal-length, only, accepted}
+use Rattle.morus.proofs.Laws.{unseal-length, accepts-only, accepts-it}
 use Rattle.hex.specs.Hex.{allDigits, unhex}
 use Rattle.hex.proofs.Laws.{decoded}
 use Rattle.hex.proofs.Ranges.{digits-are, bad-is}
@@ -27,7 +27,7 @@ use Rattle.journal.specs.Promise.{verdictOf, readingOf, TextRead, LineRe
 use Rattle.journal.specs.declared.Verdict as declared
 use Rattle.journal.specs.declared.Answer.{Answer}
 use Rattle.journal.specs.declared.Line.{Line}
-use Rattle.journal.specs.Answers.{Framed, messageOf, tagOf, FrameAnswer, TextAnswer, WriteAnswer, Placed}
+use Rattle.journal.specs.Answers.{Framed, messageOf, Own, FrameAnswer, TextAnswer, WriteAnswer, Placed}
 use Rattle.journal.specs.Answers.{TextOutcome, ReadOutcome, WriteOutcome}
 use Rattle.run.proofs.Answers.{answered}
 use Rattle.journal.proofs.Frames.{Sound, sound}
@@ -52,14 +52,14 @@ module _ (key : List ℕ) (size : ℕ) (f : List ℕ) where
   clash e = let z : _≡_ {A = ℕ} 0 1 = cc in omega arith
 
   -- what is handed out of an opened frame, by its parts
-  handed-is : (S : Sound f) → tagOf key (framed S) ≡ tagIn f
+  handed-is : (S : Sound f) → Own key (framed S)
       → handed key (nonceIn f) (adIn f) (messageOf key (framed S)) size
       ≡ opened (nIn f) (mIn f) size (openedFrame key f)
   unfolding handed opened openedFrame
-  handed-is S t =
+  handed-is S o =
       let m : length (messageOf key (framed S)) ≡ mIn f =
       unseal-length key (nonceIn f) (adIn f) (cipherIn f) ∙ S .bodyLength in
-      rw (t, m, S .adLength)
+      rw (← o, m, S .adLength)
 
   pub frame-answered : FrameAnswer key size f (readFrame key f size)
   unfolding readFrame given frameRows tagRows firstFailing refused
@@ -88,15 +88,15 @@ module _ (key : List ℕ) (size : ℕ) (f : List ℕ) where
           let m = leb-true (mIn f) mostMessage e10 in
           rw (e7, e8, e9, e10, e1)
           (FrameAnswer.tag-differs (framed S) (omega (arith, S .adLength)) (omega (arith, S .bodyLength))
-          (λ e. clash (sym (accepted key (nonceIn f) (adIn f) (cipherIn f) (tagIn f) e) ∙ e1)))
+          (λ e. clash (sym (accepts-it key (nonceIn f) (adIn f) (cipherIn f) (tagIn f) e) ∙ e1)))
       go true true true true true e7 e8 e9 e10 e1 =
           let S = sound f (leb-true _ _ e9) in
           let n = leb-true (nIn f) mostData e8 in
           let m = leb-true (mIn f) mostMessage e10 in
-          let t = only key (nonceIn f) (adIn f) (cipherIn f) (tagIn f) e1 .1 in
+          let o = accepts-only key (nonceIn f) (adIn f) (cipherIn f) (tagIn f) e1 in
           let a : FrameAnswer key size f (handed key (nonceIn f) (adIn f) (messageOf key (framed S)) size) =
-          FrameAnswer.opened (framed S) (omega (arith, S .adLength)) (omega (arith, S .bodyLength)) (sym t) in
-          rw (e7, e8, e9, e10, e1) (rw (handed-is S t) at a)
+          FrameAnswer.opened (framed S) (omega (arith, S .adLength)) (omega (arith, S .bodyLength)) o in
+          rw (e7, e8, e9, e10, e1) (rw (handed-is S o) at a)
 
 -- ---- a line's text
 

@@ -5,7 +5,8 @@ use mathlib.Core.Path.{_≡_}
 use mathlib.Core.List.{List, _∷_, _++_}
 use lib.ListN.{length, getD, take, drop}
 use Rattle.buffers.specs.Bytes.{Bytes}
-use Rattle.morus.specs.Seal.{sealTag, unseal}
+use Rattle.morus.specs.Seal.{unseal}
+use Rattle.morus.specs.Answers.{tagOf}
 use Rattle.hex.specs.Hex.{hexOf}
 use Rattle.hex.specs.Claims.{HexDigits, NotHex}
 use Rattle.run.specs.Read.{Verdict, Reading}
@@ -29,12 +30,13 @@ pub record Framed (f : List ℕ) : Type 0 where
   pub sixteen : (length nonce ≡ 16) × (length tag ≡ 16)
   pub is : f ≡ nonce ++ (length ad ∷ (ad ++ (cipher ++ tag)))
 
--- the message that its ciphertext gives, and the tag of that
+-- the message that its ciphertext opens to
 abbrev pub messageOf : (key : List ℕ) {f : List ℕ} → Framed f → List ℕ
 messageOf key F = unseal key (F .nonce) (F .ad) (F .cipher)
 
-abbrev pub tagOf : (key : List ℕ) {f : List ℕ} → Framed f → List ℕ
-tagOf key F = sealTag key (F .nonce) (F .ad) (messageOf key F)
+-- its tag is that message's
+abbrev pub Own : (key : List ℕ) {f : List ℕ} → Framed f → Type 0
+Own key F = F .tag ≡ tagOf key (F .nonce) (F .ad) (F .cipher)
 
 pub data FrameAnswer (key : List ℕ) (size : ℕ) (f : List ℕ) : Verdict → Type 0 where
   short : length f < 33 → FrameAnswer key size f (blank 7 size)
@@ -42,9 +44,9 @@ pub data FrameAnswer (key : List ℕ) (size : ℕ) (f : List ℕ) : Verdict → 
   data-past : 33 ≤ length f → getD f 16 0 ≤ 64 → length f < 33 + getD f 16 0 → FrameAnswer key size f (blank 9 size)
   message-long : (F : Framed f) → length (F .ad) ≤ 64 → 256 < length (F .cipher)
       → FrameAnswer key size f (blank 10 size)
-  tag-differs : (F : Framed f) → length (F .ad) ≤ 64 → length (F .cipher) ≤ 256 → (F .tag ≡ tagOf key F → ⊥)
+  tag-differs : (F : Framed f) → length (F .ad) ≤ 64 → length (F .cipher) ≤ 256 → (Own key F → ⊥)
       → FrameAnswer key size f (blank 1 size)
-  opened : (F : Framed f) → length (F .ad) ≤ 64 → length (F .cipher) ≤ 256 → F .tag ≡ tagOf key F
+  opened : (F : Framed f) → length (F .ad) ≤ 64 → length (F .cipher) ≤ 256 → Own key F
       → FrameAnswer key size f (handed key (F .nonce) (F .ad) (messageOf key F) size)
 
 -- ---- a line's text

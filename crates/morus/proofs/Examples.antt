@@ -1,17 +1,17 @@
--- A worked example, computed: what a definition that is bent together with the code would break.
-use mathlib.Core.Path.{_≡_, refl}
-use mathlib.Core.List.{[], _∷_}
-use Rattle.state.specs.declared.State.{State}
+-- The worked example, computed: what a definition that is bent together with the code would break.
+use mathlib.Core.Path.{refl}
 use Rattle.state.specs.Xor.{xorBytes}
-use Rattle.state.specs.Lane.{laneBytes, lane4, zeroLane}
-use Rattle.state.specs.Update.{state}
-use Rattle.state.specs.Block.{keyStream, stream}
-use Rattle.morus.specs.Blocks.{bytesN, bytesBy, covered}
+use Rattle.state.specs.Lane.{turn, laneOf, laneBytes, _⊕_, _&_, turned, moved}
+use Rattle.state.specs.Update.{step1, step2, step3, step4, step5, firstSteps, lastSteps, update, times}
+use Rattle.state.specs.Start.{loaded, startWith, start}
+use Rattle.state.specs.Block.{keyStream, stream, sealing}
+use Rattle.state.specs.Tag.{ended, tag}
+use Rattle.morus.specs.Blocks.{bytesN, stateN, bytesBy, stateBy}
+use Rattle.morus.specs.Seal.{sealFrom, sealTagFrom, seal, sealTag}
+use Rattle.morus.specs.Example.{Example}
 
--- a byte of zero from the state in which only S1 word 1 is 5: what comes out is the key stream
-abbrev fiveState : State
-fiveState = state zeroLane (lane4 0 5 0 0) zeroLane zeroLane zeroLane
-
-pub a-ciphertext : covered fiveState (0 ∷ []) ≡ 5 ∷ []
-unfolding bytesBy bytesN xorBytes stream laneBytes keyStream
-a-ciphertext = refl
+pub example : Example
+unfolding seal sealTag sealFrom sealTagFrom bytesBy stateBy bytesN stateN xorBytes sealing
+    start startWith loaded tag ended stream laneOf laneBytes keyStream times update firstSteps lastSteps
+    step1 step2 step3 step4 step5 turned moved _⊕_ _&_ turn
+example = record { ciphertext = refl; tag = refl; block-tag = refl; tag-of-nothing = refl }

@@ -63,36 +63,41 @@ module _ (key nonce d : List ℕ) where
   unfolding sealTag sealTagFrom
   tag-bytes m = bytes-tag (absorbed (absorbed (start key nonce) d) m) (lengths (length d) (length m))
 
-  -- opening what sealing gives is accepted and gives the message back
-  pub own : (m : List ℕ) → accepts key nonce d (seal key nonce d m) (sealTag key nonce d m) ≡ true
-  unfolding accepts acceptsFrom unsealTagFrom seal sealFrom sealTag sealTagFrom
-  own m = rw (undone opening-undoes (absorbed (start key nonce) d) m .1, length-bytes) (same-self _)
-
-  pub back : (m : List ℕ) → unseal key nonce d (seal key nonce d m) ≡ m
-  unfolding unseal unsealFrom seal sealFrom
-  back m = undone opening-undoes (absorbed (start key nonce) d) m .0
-
-  -- what opening accepts seals to exactly that ciphertext and tag again
-  pub only : (c t : List ℕ) → accepts key nonce d c t ≡ true
-      → (seal key nonce d (unseal key nonce d c) ≡ c) × (sealTag key nonce d (unseal key nonce d c) ≡ t)
-  unfolding accepts acceptsFrom unsealTagFrom unseal unsealFrom seal sealFrom sealTag sealTagFrom
-  only c t h =
-      let s : State = absorbed (start key nonce) d in (
-        undone sealing-undoes s c .0,
-        rw (undone sealing-undoes s c .1, length-bytes) (sym (same-true t _ h)),
-      )
-
-  -- every ciphertext is that of the message it gives
+  -- every ciphertext is that of the message it opens to
   pub whole : (c : List ℕ) → seal key nonce d (unseal key nonce d c) ≡ c
   unfolding unseal unsealFrom seal sealFrom
   whole c = undone sealing-undoes (absorbed (start key nonce) d) c .0
 
-  pub accepted : (c t : List ℕ) → t ≡ sealTag key nonce d (unseal key nonce d c) → accepts key nonce d c t ≡ true
-  accepted c t e = rw e (rw (whole c) at (own (unseal key nonce d c)))
+  -- and its tag, the one that opening makes, is that message's
+  tag-opened : (c : List ℕ) → unsealTagFrom (start key nonce) d c ≡ sealTag key nonce d (unseal key nonce d c)
+  unfolding unsealTagFrom unseal unsealFrom sealTag sealTagFrom
+  tag-opened c = rw (undone sealing-undoes (absorbed (start key nonce) d) c .1, length-bytes)
+
+  -- so of each ciphertext exactly one tag is accepted, in all of its bytes
+  pub accepts-only : (c t : List ℕ) → accepts key nonce d c t ≡ true → t ≡ sealTag key nonce d (unseal key nonce d c)
+  unfolding accepts acceptsFrom
+  accepts-only c t h = same-true t _ h ∙ tag-opened c
+
+  pub accepts-it : (c t : List ℕ) → t ≡ sealTag key nonce d (unseal key nonce d c) → accepts key nonce d c t ≡ true
+  unfolding accepts acceptsFrom
+  accepts-it c t e = rw (e, tag-opened c) (same-self _)
+
+  -- opening what sealing gives gives the message back, and is accepted
+  pub back : (m : List ℕ) → unseal key nonce d (seal key nonce d m) ≡ m
+  unfolding unseal unsealFrom seal sealFrom
+  back m = undone opening-undoes (absorbed (start key nonce) d) m .0
+
+  pub own : (m : List ℕ) → accepts key nonce d (seal key nonce d m) (sealTag key nonce d m) ≡ true
+  own m = accepts-it (seal key nonce d m) (sealTag key nonce d m) (ap (sealTag key nonce d) (sym (back m)))
+
+  -- what opening accepts seals to exactly that ciphertext and tag again
+  pub only : (c t : List ℕ) → accepts key nonce d c t ≡ true
+      → (seal key nonce d (unseal key nonce d c) ≡ c) × (sealTag key nonce d (unseal key nonce d c) ≡ t)
+  only c t h = (whole c, sym (accepts-only c t h))
 
   -- it accepts exactly one tag, the defined one, in all of its bytes
   pub exactly : (m t : List ℕ) → accepts key nonce d (seal key nonce d m) t ≡ true → t ≡ sealTag key nonce d m
-  exactly m t h = sym (only (seal key nonce d m) t h .1) ∙ ap (sealTag key nonce d) (back m)
+  exactly m t h = accepts-only (seal key nonce d m) t h ∙ ap (sealTag key nonce d) (back m)
 
 passes : (d m : List ℕ) → length d < limit → length m < limit → AllPass (lengthRows (length d) (length m))
 passes d m hd hm = short-passes (length d) (length m) (record { data-short = hd; text-short = hm })

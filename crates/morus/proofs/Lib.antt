@@ -4,5 +4,6 @@ pub mod Numbers
 pub mod Same
 pub mod Promises
 pub mod Laws
+pub mod Answers
 pub mod Determined
 pub mod Examples

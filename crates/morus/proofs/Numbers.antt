@@ -2,6 +2,7 @@
 use Prim.Native.Nat.{ℕ, _<_}
 use mathlib.Core.Path.{_≡_}
 use mathlib.Core.Bool.{cond}
+use native.Mathlib.Omega.{arith}
 use lib.Dec.{eqb}
 use borrow.Author.Tests.{lt-ltb, ltb-true, eq-eqb, eqb-true}
 use Rattle.answers.specs.Numbers.{done, otherLength}
@@ -22,7 +23,8 @@ pub record Fits (d m o : ℕ) : Type 0 where
 module _ (d m : ℕ) where
   short-of : AllPass (lengthRows d m) → Short d m
   unfolding lengthRows
-  short-of (a, (b, none)) = record { data-short = ltb-true d limit a; text-short = ltb-true m limit b }
+  short-of (a, (b, none)) =
+      record { data-short = omega (arith, ltb-true d _ a); text-short = omega (arith, ltb-true m _ b) }
 
   pub short-pass : firstFailing (lengthRows d m) ≡ 0 → Short d m
   unfolding lengthRows
@@ -42,7 +44,7 @@ module _ (d m : ℕ) where
     unfolding intoRows lengthRows
     fits-of (a, (b, (c, none))) =
         record {
-          short = record { data-short = ltb-true d limit a; text-short = ltb-true m limit b };
+          short = short-of (a, (b, tt));
           same = eqb-true o m c;
         }
 
