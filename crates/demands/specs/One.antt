@@ -18,11 +18,11 @@ use Rattle.journal.specs.Answers.{TextOutcome, ReadOutcome, WriteOutcome}
 pub record Demand1 : Type 0 where
   -- the cipher: 2, 3, 1
   pub encrypt-in-place : (nonce key d m : List ℕ) {r : Sealed} {m' : List ℕ}
-      → Encrypted (begun nonce key) d m r m' → SealOutcome d m m r m'
+      → Encrypted (begun nonce key) d m r m' → SealOutcome key nonce d m m r m'
   pub decrypt-in-place : (nonce key d c t : List ℕ) {r : ℕ} {m' : List ℕ}
       → Decrypted (begun nonce key) d c t r m' → OpenOutcome key nonce d c t c r m'
   pub encrypt : (nonce key d m out : List ℕ) {r : Sealed} {out' : List ℕ}
-      → EncryptedInto (begun nonce key) d m out r out' → SealOutcome d m out r out'
+      → EncryptedInto (begun nonce key) d m out r out' → SealOutcome key nonce d m out r out'
   pub decrypt : (nonce key d c t out : List ℕ) {r : ℕ} {out' : List ℕ}
       → DecryptedInto (begun nonce key) d c t out r out' → OpenOutcome key nonce d c t out r out'
   -- the reader: 13, 12, 14, 11, and of a line's text 4, 5, 6, 7, 8, 9, 10, 1

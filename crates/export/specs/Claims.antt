@@ -1,68 +1,21 @@
--- What the functions give, apart from the definitions that their promises are written with: numbers and sizes are
--- literals, the cipher is demand 2's `seal` and `sealTag`, and the key comes before the nonce, as in the header.
-use Prim.Native.Nat.{ℕ, _+_, _-_, _*_, _^_, _<_, _≤_}
+-- What the functions give, apart from the definitions that their promises are written with: the answers of the cipher
+-- and of the journal, which speak with literals of `seal key nonce` and `sealTag key nonce`. The key comes before the
+-- nonce, as in the header.
+use Prim.Native.Nat.{ℕ, _+_, _-_, _≤_}
 use mathlib.Core.Path.{_≡_}
-use mathlib.Core.Logic.{_⊎_}
-use mathlib.Core.List.{List, [], _∷_, _++_}
-use lib.ListN.{length, take, drop, replicate}
+use mathlib.Core.List.{List, _∷_, _++_}
+use lib.ListN.{length, take, replicate}
 use Rattle.buffers.specs.Bytes.{Bytes}
-use Rattle.hex.specs.Hex.{hexOf}
-use Rattle.morus.specs.Seal.{seal, sealTag}
-use Rattle.run.specs.Claims.{Blank}
+use Rattle.morus.specs.Seal.{sealTag}
+use Rattle.morus.specs.Answers.{SealAnswer, OpenAnswer}
+use Rattle.run.specs.Read.{reading}
+use Rattle.journal.specs.Answers.{ReadAnswer, WriteAnswer}
 use Rattle.export.specs.Promise.{SealedInPlace, OpenedInPlace, SealedInto, OpenedInto, Wrote, Read}
-
--- ---- the cipher
-
--- data and text are below 2^61 bytes; and not
-pub record Short (ad text : List ℕ) : Type 0 where
-  pub data-short : length ad < 2 ^ 61
-  pub text-short : length text < 2 ^ 61
-
-abbrev pub TooLong : List ℕ → List ℕ → Type 0
-TooLong ad text = (2 ^ 61 ≤ length ad) ⊎ (2 ^ 61 ≤ length text)
-
--- a sealing into a buffer that holds out, which in place is the text: done, or the buffer untouched and the tag zeros
-pub data Seals (key nonce ad text out : List ℕ) : (number : ℕ) → (out' tag' : List ℕ) → Type 0 where
-  done : Short ad text → length out ≡ length text
-      → Seals key nonce ad text out 0 (seal key nonce ad text) (sealTag key nonce ad text)
-  too-long : TooLong ad text → Seals key nonce ad text out 2 out (replicate 16 0)
-  other-length : Short ad text → (length out ≡ length text → ⊥)
-      → Seals key nonce ad text out 3 out (replicate 16 0)
-
--- an opening; every ciphertext is that of one message m, which is given where the tag is m's; else every byte is 170
-pub data Opens (key nonce ad cipher tag out : List ℕ) : (number : ℕ) → (out' : List ℕ) → Type 0 where
-  done : (m : List ℕ) → Short ad cipher → length out ≡ length cipher → cipher ≡ seal key nonce ad m
-      → tag ≡ sealTag key nonce ad m → Opens key nonce ad cipher tag out 0 m
-  tag-differs : (m : List ℕ) → Short ad cipher → length out ≡ length cipher → cipher ≡ seal key nonce ad m
-      → (tag ≡ sealTag key nonce ad m → ⊥) → Opens key nonce ad cipher tag out 1 (replicate (length out) 170)
-  too-long : TooLong ad cipher → Opens key nonce ad cipher tag out 2 (replicate (length out) 170)
-  other-length : Short ad cipher → (length out ≡ length cipher → ⊥)
-      → Opens key nonce ad cipher tag out 3 (replicate (length out) 170)
 
 -- what was sealed is opened
 pub record Back (text : List ℕ) (number : ℕ) (out' : List ℕ) : Type 0 where
   pub done : number ≡ 0
   pub same : out' ≡ text
-
--- ---- the journal
-
--- the frame in digits, then a newline; and its length
-abbrev pub sealedLine : (key nonce ad message : List ℕ) → List ℕ
-sealedLine key nonce ad message =
-    hexOf (nonce ++ length ad ∷ (ad ++ (seal key nonce ad message ++ sealTag key nonce ad message))) ++ 10 ∷ []
-
-abbrev pub lineSize : (ad message : List ℕ) → ℕ
-lineSize ad message = 2 * (33 + length ad + length message) + 1
-
--- a writing: the line and then the buffer's old bytes, or the buffer untouched and no length
-pub data Writes (key nonce ad message line : List ℕ) : (number : ℕ) → (line' : List ℕ) → (size' : ℕ) → Type 0 where
-  done : length ad ≤ 64 → length message ≤ 256 → lineSize ad message ≤ length line
-      → Writes key nonce ad message line 0
-      (sealedLine key nonce ad message ++ drop (lineSize ad message) line) (lineSize ad message)
-  data-too-long : 64 < length ad → Writes key nonce ad message line 8 line 0
-  message-too-long : length ad ≤ 64 → 256 < length message → Writes key nonce ad message line 10 line 0
-  line-too-small : length ad ≤ 64 → length message ≤ 256 → length line < lineSize ad message
-      → Writes key nonce ad message line 15 line 0
 
 -- a line of `size` bytes, written and then read at a place: what went in is handed out, and every byte behind is 170
 pub record ReadBack (key nonce ad message frame : List ℕ) (place size : ℕ)
@@ -75,22 +28,22 @@ pub record ReadBack (key nonce ad message frame : List ℕ) (place size : ℕ)
       ≡ (nonce ++ length ad ∷ (ad ++ (message ++ sealTag key nonce ad message)))
       ++ replicate (length frame - (33 + length ad + length message)) 170
 
--- ---- whatever the promises of the six functions allow
-
+-- whatever the promises of the six functions allow
 pub record Functions : Type 0 where
   pub seal-in-place : (key nonce ad text : List ℕ) {number : ℕ} {text' tag' : List ℕ}
-      → SealedInPlace key nonce ad text number text' tag' → Seals key nonce ad text text number text' tag'
+      → SealedInPlace key nonce ad text number text' tag' → SealAnswer key nonce ad text text number tag' text'
   pub open-in-place : (key nonce ad text tag : List ℕ) {number : ℕ} {text' : List ℕ}
-      → OpenedInPlace key nonce ad text tag number text' → Opens key nonce ad text tag text number text'
+      → OpenedInPlace key nonce ad text tag number text' → OpenAnswer key nonce ad text tag text number text'
   pub seal-into : (key nonce ad message out : List ℕ) {number : ℕ} {out' tag' : List ℕ}
-      → SealedInto key nonce ad message out number out' tag' → Seals key nonce ad message out number out' tag'
+      → SealedInto key nonce ad message out number out' tag' → SealAnswer key nonce ad message out number tag' out'
   pub open-into : (key nonce ad cipher tag out : List ℕ) {number : ℕ} {out' : List ℕ}
-      → OpenedInto key nonce ad cipher tag out number out' → Opens key nonce ad cipher tag out number out'
+      → OpenedInto key nonce ad cipher tag out number out' → OpenAnswer key nonce ad cipher tag out number out'
   pub write-line : (key nonce ad message line : List ℕ) {number size' : ℕ} {line' : List ℕ}
-      → Wrote key nonce ad message line number line' size' → Writes key nonce ad message line number line' size'
-  pub read-refused : (journal key frame : List ℕ) (place : ℕ) {number next' n' m' : ℕ} {frame' : List ℕ}
-      → Read journal place key frame number frame' next' n' m' → (number ≡ 0 → ⊥)
-      → Blank (length frame) n' m' frame'
+      → Wrote key nonce ad message line number line' size' → WriteAnswer key nonce ad message line number size' line'
+  pub read-line : (journal key frame : List ℕ) (place : ℕ) {number next' n' m' : ℕ} {frame' : List ℕ}
+      → Read journal place key frame number frame' next' n' m'
+      → ReadAnswer key journal place (length frame)
+      (reading (record { number = number; n = n'; m = m'; buffer = frame' }) next')
   -- what the one function has sealed or written, the other opens or reads
   pub back-in-place : (key nonce ad text : List ℕ) {number : ℕ} {text' tag' text'' : List ℕ}
       → SealedInPlace key nonce ad text 0 text' tag' → OpenedInPlace key nonce ad text' tag' number text''

@@ -3,16 +3,16 @@
 use Prim.Native.Nat.{ℕ, zero, suc, _+_, _%_}
 use mathlib.Core.Path.{_≡_, refl, sym, ap, ap₂, _∙_}
 use mathlib.Core.Bool.{Bool, true, false}
-use mathlib.Core.List.{List, _++_}
+use mathlib.Core.List.{List}
 use native.Mathlib.Omega.{arith}
-use lib.ListN.{length, take, drop}
+use lib.ListN.{length, drop}
 use lib.Seq.{take-at, drop-at}
 use lib.Dec.{leb, eqb}
 use borrow.Author.Tests.{leb-true, leb-false, eqb-true, eqb-false}
 use Rattle.answers.specs.Sizes.{fixed, mostData, mostMessage, mostFrame, mostDigits}
 use Rattle.answers.specs.Rows.{firstFailing}
-use Rattle.morus.specs.Seal.{accepts}
-use Rattle.morus.proofs.Laws.{unseal-length, accepts-only, accepts-it}
+use Rattle.morus.specs.Seal.{unseal, accepts}
+use Rattle.morus.proofs.Laws.{unseal-length, whole, accepts-only, accepts-it}
 use Rattle.hex.specs.Hex.{allDigits, unhex}
 use Rattle.hex.proofs.Laws.{decoded}
 use Rattle.hex.proofs.Ranges.{digits-are, bad-is}
@@ -22,12 +22,12 @@ use Rattle.journal.specs.Reader.{textRows, frameRows, tagRows, lineRows}
 use Rattle.journal.specs.Reader.{opened, openedFrame, given, readFrame, readText, readAt}
 use Rattle.journal.specs.Claims.{handed}
 use Rattle.journal.specs.Line.{lineOf, lineLength}
-use Rattle.journal.specs.Writer.{writerRows, writerNumber, writing, writeInto}
+use Rattle.journal.specs.Writer.{Writing, writerRows, writerNumber, writing, writeInto}
 use Rattle.journal.specs.Promise.{verdictOf, readingOf, TextRead, LineRead, LineWritten}
 use Rattle.journal.specs.declared.Verdict as declared
 use Rattle.journal.specs.declared.Answer.{Answer}
 use Rattle.journal.specs.declared.Line.{Line}
-use Rattle.journal.specs.Answers.{Framed, messageOf, Own, FrameAnswer, TextAnswer, WriteAnswer, Placed}
+use Rattle.journal.specs.Answers.{Framed, Own, FrameAnswer, TextAnswer, sealedLine, lineSize, WriteAnswer, Placed}
 use Rattle.journal.specs.Answers.{TextOutcome, ReadOutcome, WriteOutcome}
 use Rattle.run.proofs.Answers.{answered}
 use Rattle.journal.proofs.Frames.{Sound, sound}
@@ -38,28 +38,28 @@ use Rattle.journal.proofs.Refused.{not-opened, not-written}
 -- ---- a frame
 
 module _ (key : List ℕ) (size : ℕ) (f : List ℕ) where
-  abbrev framed : Sound f → Framed f
+  abbrev framed : Sound f → Framed key f
   framed S = record {
     nonce = nonceIn f;
     ad = adIn f;
-    cipher = cipherIn f;
+    message = unseal key (nonceIn f) (adIn f) (cipherIn f);
     tag = tagIn f;
     sixteen = (S .nonce16, S .tag16);
-    is = sym (S .whole);
+    is = sym (rw (whole key (nonceIn f) (adIn f) (cipherIn f)) (S .whole));
   }
+
+  message-length : (S : Sound f) → length (framed S .message) ≡ mIn f
+  message-length S = unseal-length key (nonceIn f) (adIn f) (cipherIn f) ∙ S .bodyLength
 
   clash : true ≡ false → ⊥
   clash e = let z : _≡_ {A = ℕ} 0 1 = cc in omega arith
 
   -- what is handed out of an opened frame, by its parts
-  handed-is : (S : Sound f) → Own key (framed S)
-      → handed key (nonceIn f) (adIn f) (messageOf key (framed S)) size
+  handed-is : (S : Sound f) → Own (framed S)
+      → handed key (nonceIn f) (adIn f) (framed S .message) size
       ≡ opened (nIn f) (mIn f) size (openedFrame key f)
   unfolding handed opened openedFrame
-  handed-is S o =
-      let m : length (messageOf key (framed S)) ≡ mIn f =
-      unseal-length key (nonceIn f) (adIn f) (cipherIn f) ∙ S .bodyLength in
-      rw (← o, m, S .adLength)
+  handed-is S o = rw (← o, message-length S, S .adLength)
 
   pub frame-answered : FrameAnswer key size f (readFrame key f size)
   unfolding readFrame given frameRows tagRows firstFailing refused
@@ -81,21 +81,21 @@ module _ (key : List ℕ) (size : ℕ) (f : List ℕ) where
           let n = leb-true (nIn f) mostData e8 in
           let m = leb-false (mIn f) mostMessage e10 in
           rw (e7, e8, e9, e10)
-          (FrameAnswer.message-long (framed S) (omega (arith, S .adLength)) (omega (arith, S .bodyLength)))
+          (FrameAnswer.message-long (framed S) (omega (arith, S .adLength)) (omega (arith, message-length S)))
       go true true true true false e7 e8 e9 e10 e1 =
           let S = sound f (leb-true _ _ e9) in
           let n = leb-true (nIn f) mostData e8 in
           let m = leb-true (mIn f) mostMessage e10 in
           rw (e7, e8, e9, e10, e1)
-          (FrameAnswer.tag-differs (framed S) (omega (arith, S .adLength)) (omega (arith, S .bodyLength))
+          (FrameAnswer.tag-differs (framed S) (omega (arith, S .adLength)) (omega (arith, message-length S))
           (λ e. clash (sym (accepts-it key (nonceIn f) (adIn f) (cipherIn f) (tagIn f) e) ∙ e1)))
       go true true true true true e7 e8 e9 e10 e1 =
           let S = sound f (leb-true _ _ e9) in
           let n = leb-true (nIn f) mostData e8 in
           let m = leb-true (mIn f) mostMessage e10 in
           let o = accepts-only key (nonceIn f) (adIn f) (cipherIn f) (tagIn f) e1 in
-          let a : FrameAnswer key size f (handed key (nonceIn f) (adIn f) (messageOf key (framed S)) size) =
-          FrameAnswer.opened (framed S) (omega (arith, S .adLength)) (omega (arith, S .bodyLength)) o in
+          let a : FrameAnswer key size f (handed key (nonceIn f) (adIn f) (framed S .message) size) =
+          FrameAnswer.opened (framed S) (omega (arith, S .adLength)) (omega (arith, message-length S)) o in
           rw (e7, e8, e9, e10, e1) (rw (handed-is S o) at a)
 
 -- ---- a line's text
@@ -145,23 +145,53 @@ module _ {j key frame frame' : List ℕ} {place : ℕ} {r : Answer} where
         refused = not-opened h;
       }
 
-writer-answered : (n m room : ℕ) → WriteAnswer n m room (writerNumber n m room)
-unfolding writerNumber writerRows firstFailing
-writer-answered n m room = go (leb n mostData) (leb m mostMessage) (leb (lineLength n m) room) refl refl refl
-  where
-    go : (b8 b10 b15 : Bool) → leb n mostData ≡ b8 → leb m mostMessage ≡ b10 → leb (lineLength n m) room ≡ b15
-        → WriteAnswer n m room (writerNumber n m room)
-    go false b10 b15 e8 e10 e15 = rw e8 (WriteAnswer.data-long (leb-false _ _ e8))
-    go true false b15 e8 e10 e15 = rw (e8, e10) (WriteAnswer.message-long (leb-true _ _ e8) (leb-false _ _ e10))
-    go true true false e8 e10 e15 =
-        rw (e8, e10, e15) (WriteAnswer.no-room (leb-true _ _ e8) (leb-true _ _ e10) (leb-false _ _ e15))
-    go true true true e8 e10 e15 =
-        rw (e8, e10, e15) (WriteAnswer.done (leb-true _ _ e8) (leb-true _ _ e10) (leb-true _ _ e15))
+-- ---- writing
 
 writing-number : (line old : List ℕ) (size k : ℕ) → writing line old size k .report .number ≡ k
 unfolding writing
 writing-number line old size zero = refl
 writing-number line old size (suc k) = refl
+
+module _ (key nonce ad message line : List ℕ) where
+  abbrev made : Writing
+  made = writeInto key nonce ad message line
+
+  writer-answered : WriteAnswer key nonce ad message line (made .report .number) (made .report .length) (made .buffer)
+  unfolding writeInto writing writerNumber writerRows firstFailing
+  writer-answered =
+      go (leb (length ad) mostData) (leb (length message) mostMessage)
+      (leb (lineLength (length ad) (length message)) (length line)) refl refl refl
+    where
+      go : (b8 b10 b15 : Bool) → leb (length ad) mostData ≡ b8 → leb (length message) mostMessage ≡ b10
+          → leb (lineLength (length ad) (length message)) (length line) ≡ b15
+          → WriteAnswer key nonce ad message line (made .report .number) (made .report .length) (made .buffer)
+      go false b10 b15 e8 e10 e15 = rw e8 (WriteAnswer.data-long (leb-false _ _ e8))
+      go true false b15 e8 e10 e15 = rw (e8, e10) (WriteAnswer.message-long (leb-true _ _ e8) (leb-false _ _ e10))
+      go true true false e8 e10 e15 =
+          rw (e8, e10, e15) (WriteAnswer.no-room (leb-true _ _ e8) (leb-true _ _ e10) (leb-false _ _ e15))
+      go true true true e8 e10 e15 =
+          rw (e8, e10, e15) (WriteAnswer.done (leb-true _ _ e8) (leb-true _ _ e10) (leb-true _ _ e15))
+
+  pub size-of : {k size : ℕ} {line' : List ℕ} → WriteAnswer key nonce ad message line k size line' → k ≡ 0
+      → size ≡ lineSize ad message
+  size-of (WriteAnswer.data-long h) z = absurd (omega arith)
+  size-of (WriteAnswer.message-long h i) z = absurd (omega arith)
+  size-of (WriteAnswer.no-room h i j) z = absurd (omega arith)
+  size-of (WriteAnswer.done h i j) z = refl
+
+  -- a line that was written, by its parts
+  placed : {k size : ℕ} {line' : List ℕ} → WriteAnswer key nonce ad message line k size line' → k ≡ 0
+      → length nonce ≡ 16 → Placed (sealedLine key nonce ad message) size line line'
+  placed (WriteAnswer.data-long h) z l = absurd (omega arith)
+  placed (WriteAnswer.message-long h i) z l = absurd (omega arith)
+  placed (WriteAnswer.no-room h i j) z l = absurd (omega arith)
+  placed (WriteAnswer.done h i j) z l =
+      let e = line-size key nonce ad message l in
+      let rest = drop (lineSize ad message) line in
+      record {
+        front = take-at (sealedLine key nonce ad message) rest (lineSize ad message) e;
+        behind = drop-at (sealedLine key nonce ad message) rest (lineSize ad message) e;
+      }
 
 module _ {key nonce ad message line line' : List ℕ} {r : Line} (w : LineWritten key nonce ad message line r line') where
   pub number-is : r .number ≡ writerNumber (length ad) (length message) (length line)
@@ -170,29 +200,8 @@ module _ {key nonce ad message line line' : List ℕ} {r : Line} (w : LineWritte
       ap (λ (a : Line). a .number) (w .report)
       ∙ writing-number (lineOf key nonce ad message) line (lineLength (length ad) (length message)) _
 
-  size-is : r .number ≡ 0 → r .length ≡ lineLength (length ad) (length message)
-  unfolding writeInto writing
-  size-is z = ap (λ (a : Line). a .length) (w .report) ∙ rw (sym number-is ∙ z)
-
-  line-is : r .number ≡ 0 → line' ≡ lineOf key nonce ad message ++ drop (r .length) line
-  unfolding writeInto writing
-  line-is z = w .buffer ∙ rw (sym number-is ∙ z, size-is z)
-
-  placed : r .number ≡ 0 → length nonce ≡ 16 → Placed (lineOf key nonce ad message) (r .length) line line'
-  placed z nonce16 =
-      let line-text = lineOf key nonce ad message in
-      let rest = drop (r .length) line in
-      let l : length (lineOf key nonce ad message) ≡ r .length =
-      line-size key nonce ad message nonce16 ∙ sym (size-is z) in
-      record {
-        front = ap (take (r .length)) (line-is z) ∙ take-at line-text rest (r .length) l;
-        behind = ap (drop (r .length)) (line-is z) ∙ drop-at line-text rest (r .length) l;
-      }
-
   pub write-outcome : WriteOutcome key nonce ad message line r line'
-  write-outcome = record {
-    answer = rw number-is (writer-answered (length ad) (length message) (length line));
-    refused = not-written w;
-    size = size-is;
-    written = placed;
-  }
+  write-outcome =
+      let a : WriteAnswer key nonce ad message line (r .number) (r .length) line' =
+      rw (w .report, w .buffer) (writer-answered key nonce ad message line) in
+      record { answer = a; refused = not-written w; written = placed key nonce ad message line a }

@@ -30,7 +30,7 @@ use Rattle.journal.proofs.Frames.{frame-length}
 use Rattle.journal.proofs.Made.{digits-plain, is-sealed, line-opens}
 use Rattle.journal.proofs.Sizes.{line-size}
 use Rattle.journal.proofs.WriteLine.{writer-pass}
-use Rattle.journal.proofs.Answers.{number-is, write-outcome}
+use Rattle.journal.proofs.Answers.{number-is, size-of, write-outcome}
 use Rattle.journal.proofs.Rows.{not-end}
 
 -- ---- what was written
@@ -48,7 +48,7 @@ module _ {key nonce ad message line line' : List ℕ} {r : Line}
 
   -- the line stands at the front, and its length was reported
   pub size-is : r .length ≡ length (lineOf key nonce ad message)
-  size-is = write-outcome w .size z ∙ sym (line-size key nonce ad message len)
+  size-is = size-of key nonce ad message line (write-outcome w .answer) z ∙ sym (line-size key nonce ad message len)
 
   pub front-is : take (r .length) line' ≡ lineOf key nonce ad message
   front-is = write-outcome w .written z len .front

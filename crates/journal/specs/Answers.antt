@@ -2,11 +2,10 @@
 -- negated. It stands apart from the rows that define them, so that what is bent there is seen here.
 use Prim.Native.Nat.{ℕ, _+_, _*_, _%_, _<_, _≤_}
 use mathlib.Core.Path.{_≡_}
-use mathlib.Core.List.{List, _∷_, _++_}
+use mathlib.Core.List.{List, [], _∷_, _++_}
 use lib.ListN.{length, getD, take, drop}
 use Rattle.buffers.specs.Bytes.{Bytes}
-use Rattle.morus.specs.Seal.{unseal}
-use Rattle.morus.specs.Answers.{tagOf}
+use Rattle.morus.specs.Seal.{seal, sealTag}
 use Rattle.hex.specs.Hex.{hexOf}
 use Rattle.hex.specs.Claims.{HexDigits, NotHex}
 use Rattle.run.specs.Read.{Verdict, Reading}
@@ -15,39 +14,33 @@ use Rattle.run.specs.Answers.{blank, AnsweredAt}
 use Rattle.journal.specs.declared.Verdict as declared
 use Rattle.journal.specs.declared.Answer.{Answer}
 use Rattle.journal.specs.declared.Line.{Line}
-use Rattle.journal.specs.Line.{lineOf}
 use Rattle.journal.specs.Claims.{handed, Untouched}
 use Rattle.journal.specs.Promise.{verdictOf, readingOf}
 
 -- ---- a frame, with a frame buffer of `size` bytes
 
--- nonce (16), data count n (1), data (n), ciphertext (m), tag (16)
-pub record Framed (f : List ℕ) : Type 0 where
+-- nonce (16), data count n (1), data (n), ciphertext (m), tag (16); every ciphertext is that of one message
+pub record Framed (key f : List ℕ) : Type 0 where
   pub nonce : List ℕ
   pub ad : List ℕ
-  pub cipher : List ℕ
+  pub message : List ℕ
   pub tag : List ℕ
   pub sixteen : (length nonce ≡ 16) × (length tag ≡ 16)
-  pub is : f ≡ nonce ++ (length ad ∷ (ad ++ (cipher ++ tag)))
+  pub is : f ≡ nonce ++ (length ad ∷ (ad ++ (seal key nonce ad message ++ tag)))
 
--- the message that its ciphertext opens to
-abbrev pub messageOf : (key : List ℕ) {f : List ℕ} → Framed f → List ℕ
-messageOf key F = unseal key (F .nonce) (F .ad) (F .cipher)
-
--- its tag is that message's
-abbrev pub Own : (key : List ℕ) {f : List ℕ} → Framed f → Type 0
-Own key F = F .tag ≡ tagOf key (F .nonce) (F .ad) (F .cipher)
+abbrev pub Own : {key f : List ℕ} → Framed key f → Type 0
+Own {key} F = F .tag ≡ sealTag key (F .nonce) (F .ad) (F .message)
 
 pub data FrameAnswer (key : List ℕ) (size : ℕ) (f : List ℕ) : Verdict → Type 0 where
   short : length f < 33 → FrameAnswer key size f (blank 7 size)
   data-long : 33 ≤ length f → 64 < getD f 16 0 → FrameAnswer key size f (blank 8 size)
   data-past : 33 ≤ length f → getD f 16 0 ≤ 64 → length f < 33 + getD f 16 0 → FrameAnswer key size f (blank 9 size)
-  message-long : (F : Framed f) → length (F .ad) ≤ 64 → 256 < length (F .cipher)
+  message-long : (F : Framed key f) → length (F .ad) ≤ 64 → 256 < length (F .message)
       → FrameAnswer key size f (blank 10 size)
-  tag-differs : (F : Framed f) → length (F .ad) ≤ 64 → length (F .cipher) ≤ 256 → (Own key F → ⊥)
+  tag-differs : (F : Framed key f) → length (F .ad) ≤ 64 → length (F .message) ≤ 256 → (Own F → ⊥)
       → FrameAnswer key size f (blank 1 size)
-  opened : (F : Framed f) → length (F .ad) ≤ 64 → length (F .cipher) ≤ 256 → Own key F
-      → FrameAnswer key size f (handed key (F .nonce) (F .ad) (messageOf key F) size)
+  opened : (F : Framed key f) → length (F .ad) ≤ 64 → length (F .message) ≤ 256 → Own F
+      → FrameAnswer key size f (handed key (F .nonce) (F .ad) (F .message) size)
 
 -- ---- a line's text
 
@@ -73,13 +66,25 @@ pub record ReadOutcome (j : List ℕ) (place : ℕ) (key frame : List ℕ) (r : 
   pub answer : ReadAnswer key j place (length frame) (readingOf r frame')
   pub refused : (r .number ≡ 0 → ⊥) → Blank (length frame) (r .n) (r .m) frame'
 
--- ---- writing n bytes of data and m of message into a line buffer of `room` bytes
+-- ---- writing into a line buffer
 
-pub data WriteAnswer (n m room : ℕ) : ℕ → Type 0 where
-  data-long : 64 < n → WriteAnswer n m room 8
-  message-long : n ≤ 64 → 256 < m → WriteAnswer n m room 10
-  no-room : n ≤ 64 → m ≤ 256 → room < 2 * (33 + n + m) + 1 → WriteAnswer n m room 15
-  done : n ≤ 64 → m ≤ 256 → 2 * (33 + n + m) + 1 ≤ room → WriteAnswer n m room 0
+-- the frame in digits, then a newline; and its length
+abbrev pub sealedLine : (key nonce ad message : List ℕ) → List ℕ
+sealedLine key nonce ad message =
+    hexOf (nonce ++ (length ad ∷ (ad ++ (seal key nonce ad message ++ sealTag key nonce ad message)))) ++ (10 ∷ [])
+
+abbrev pub lineSize : (ad message : List ℕ) → ℕ
+lineSize ad message = 2 * (33 + length ad + length message) + 1
+
+-- the number, the length, and the buffer afterwards
+pub data WriteAnswer (key nonce ad message line : List ℕ) : (number size : ℕ) → (line' : List ℕ) → Type 0 where
+  data-long : 64 < length ad → WriteAnswer key nonce ad message line 8 0 line
+  message-long : length ad ≤ 64 → 256 < length message → WriteAnswer key nonce ad message line 10 0 line
+  no-room : length ad ≤ 64 → length message ≤ 256 → length line < lineSize ad message
+      → WriteAnswer key nonce ad message line 15 0 line
+  done : length ad ≤ 64 → length message ≤ 256 → lineSize ad message ≤ length line
+      → WriteAnswer key nonce ad message line 0 (lineSize ad message)
+      (sealedLine key nonce ad message ++ drop (lineSize ad message) line)
 
 -- a line of `size` bytes at the front, and behind it the old bytes
 pub record Placed (line : List ℕ) (size : ℕ) (old now : List ℕ) : Type 0 where
@@ -87,7 +92,6 @@ pub record Placed (line : List ℕ) (size : ℕ) (old now : List ℕ) : Type 0 w
   pub behind : drop size now ≡ drop size old
 
 pub record WriteOutcome (key nonce ad message line : List ℕ) (r : Line) (line' : List ℕ) : Type 0 where
-  pub answer : WriteAnswer (length ad) (length message) (length line) (r .number)
+  pub answer : WriteAnswer key nonce ad message line (r .number) (r .length) line'
   pub refused : (r .number ≡ 0 → ⊥) → Untouched line r line'
-  pub size : r .number ≡ 0 → r .length ≡ 2 * (33 + length ad + length message) + 1
-  pub written : r .number ≡ 0 → length nonce ≡ 16 → Placed (lineOf key nonce ad message) (r .length) line line'
+  pub written : r .number ≡ 0 → length nonce ≡ 16 → Placed (sealedLine key nonce ad message) (r .length) line line'
