@@ -14,4 +14,4 @@ pub example : Example
 unfolding seal sealTag sealFrom sealTagFrom bytesBy stateBy bytesN stateN xorBytes sealing
     start startWith loaded tag ended stream laneOf laneBytes keyStream times update firstSteps lastSteps
     step1 step2 step3 step4 step5 turned moved _⊕_ _&_ turn
-example = record { ciphertext = refl; tag = refl; block-tag = refl; tag-of-nothing = refl }
+example = record { ciphertext = refl; tag = refl }
