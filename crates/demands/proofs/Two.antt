@@ -8,7 +8,8 @@ use lib.ListN.{length}
 use Rattle.morus.specs.declared.Sealed.{Sealed}
 use Rattle.morus.specs.Seal.{seal, sealTag, unseal, accepts}
 use Rattle.morus.specs.Morus.{begun, Decrypted}
-use Rattle.morus.proofs.Laws.{seal-length, tag-length, seal-bytes, tag-bytes, back, whole, accepts-only, accepts-it, encrypted, opened, refused, encrypted-into, opened-alike}
+use Rattle.morus.proofs.Laws.{seal-length, tag-length, seal-bytes, tag-bytes, back, whole, accepts-only, accepts-it}
+use Rattle.morus.proofs.Laws.{encrypted, opened, refused, encrypted-into, opened-alike}
 use Rattle.morus.proofs.Examples.{example}
 use Rattle.demands.specs.Two.{Seals, Opens, OfMessage, OfCiphertext, Demand2}
 

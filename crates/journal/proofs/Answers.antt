@@ -1,5 +1,5 @@
--- What is answered is what its row says: by the tests in their order, the frame's, the text's and the writer's, and then
--- for what each call promises. The place's rows are the run's.
+-- What is answered is what its row says: by the tests in their order, the frame's, the text's and the writer's, and
+-- then for what each call promises. The place's rows are the run's.
 use Prim.Native.Nat.{ℕ, zero, suc, _+_, _%_}
 use mathlib.Core.Path.{_≡_, refl, sym, ap, ap₂, _∙_}
 use mathlib.Core.Bool.{Bool, true, false}

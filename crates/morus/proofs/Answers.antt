@@ -26,7 +26,8 @@ both a b = record { data-short = ltb-true _ _ a; text-short = ltb-true _ _ b }
 
 module _ (key nonce d m out : List ℕ) where
   -- what a refusal leaves
-  seal-left : {k : ℕ} {t o : List ℕ} → SealAnswer key nonce d m out k t o → (k ≡ 0 → ⊥) → (o ≡ out) × (t ≡ replicate 16 0)
+  seal-left : {k : ℕ} {t o : List ℕ} → SealAnswer key nonce d m out k t o → (k ≡ 0 → ⊥)
+      → (o ≡ out) × (t ≡ replicate 16 0)
   seal-left (SealAnswer.done h l) n = absurd (n refl)
   seal-left (SealAnswer.too-long h) n = (refl, refl)
   seal-left (SealAnswer.other-length h l) n = (refl, refl)
@@ -68,7 +69,8 @@ module _ (key nonce d c t out : List ℕ) where
   Filled o = (length o ≡ length out) × ((i : ℕ) → i < length o → getD o i 0 ≡ 170)
 
   all-filled : Filled (replicate (length out) 170)
-  all-filled = (length-replicate (length out) 170, λ i h. getD-replicate (length out) i 170 0 (rw length-replicate at h))
+  all-filled =
+      (length-replicate (length out) 170, λ i h. getD-replicate (length out) i 170 0 (rw length-replicate at h))
 
   open-left : {k : ℕ} {o : List ℕ} → OpenAnswer key nonce d c t out k o → (k ≡ 0 → ⊥) → Filled o
   open-left (OpenAnswer.done m h l e o) n = absurd (n refl)
@@ -102,7 +104,8 @@ module _ (key nonce d c t out : List ℕ) where
         go true true true true ea eb ef eg =
             let l = eqb-true _ _ ef in
             let h : Short d c = both ea eb in
-            let q = opened nonce key t (opened-alike (begun nonce key) d c t out l s) (h .data-short) (h .text-short) eg in
+            let i = opened-alike (begun nonce key) d c t out l s in
+            let q = opened nonce key t i (h .data-short) (h .text-short) eg in
             rw (q .0, q .1)
             (OpenAnswer.done _ h l (sym (whole key nonce d c)) (accepts-only key nonce d c t eg))
 

@@ -17,7 +17,7 @@ pub record Short (d m : List ℕ) : Type 0 where
 abbrev pub TooLong : List ℕ → List ℕ → Type 0
 TooLong d m = (2 ^ 61 ≤ length d) ⊎ (2 ^ 61 ≤ length m)
 
--- a sealing of d and m into a buffer that holds out, which in place is m: done, or the buffer untouched and the tag zero
+-- a sealing of d and m into a buffer that holds out, which in place is m: done, or the buffer untouched, the tag zero
 pub data SealAnswer (key nonce d m out : List ℕ) : (number : ℕ) → (tag out' : List ℕ) → Type 0 where
   done : Short d m → length out ≡ length m → SealAnswer key nonce d m out 0 (sealTag key nonce d m) (seal key nonce d m)
   too-long : TooLong d m → SealAnswer key nonce d m out 2 (replicate 16 0) out

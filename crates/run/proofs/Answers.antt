@@ -1,5 +1,5 @@
--- What is said at a place is what its row says. The one proof that goes by the rows of the definition; every other law of
--- a reading follows from this one.
+-- What is said at a place is what its row says. The one proof that goes by the rows of the definition; every other law
+-- of a reading follows from this one.
 use Prim.Native.Nat.{ℕ, suc, _+_, _<_}
 use mathlib.Core.Path.{_≡_, refl}
 use mathlib.Core.Bool.{Bool, true, false}
