@@ -1,5 +1,5 @@
--- The worked example, computed from the state that key and nonce start: what a definition that is bent together with the
--- code would break.
+-- The worked example, computed from the state that key and nonce start: what a definition that is bent together with
+-- the code would break.
 use mathlib.Core.Path.{refl, ap, _∙_}
 use Rattle.state.specs.declared.State.{State}
 use Rattle.state.specs.Xor.{xorBytes}

@@ -1,5 +1,5 @@
--- A worked example, with literals, of the key and the nonce of the crate state's: data of one block, which is not padded,
--- and a message of a block and a byte. The bytes are the Rust crate's answers.
+-- A worked example, with literals, of the key and the nonce of the crate state's: data of one block, with no padded
+-- block behind it, and a message of a block and a byte. The bytes are the Rust crate's answers.
 use Prim.Native.Nat.{ℕ}
 use mathlib.Core.Path.{_≡_}
 use mathlib.Core.List.{List, [], _∷_}

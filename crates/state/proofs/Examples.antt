@@ -1,5 +1,5 @@
--- The worked example, computed: what a definition that is bent together with the code would break. The start is computed
--- once, to its twenty words, and what follows from there, here and in morus.
+-- The worked example, computed: what a definition that is bent together with the code would break. The start is
+-- computed once, to its twenty words, and what follows from there, here and in morus.
 use mathlib.Core.Path.{_≡_, refl, ap, _∙_}
 use Rattle.state.specs.declared.State.{State}
 use Rattle.state.specs.Lane.{turn, lane4, zeroLane, laneOf, laneBytes, _⊕_, _&_, turned, moved}
