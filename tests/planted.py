@@ -5,6 +5,7 @@ PAGE = "docs/PROMISES.md"
 DETERMINED = "crates/buffers/proofs/Determined.antt"
 LINES = "crates/lines/proofs/Determined.antt"
 EDIT = "crates/buffers/must-fail/half_twice.edit"
+EXPORT = "crates/export/src/lib.rt"
 FILL = "crates/buffers/src/filling.rt"
 FIND = "crates/buffers/src/finding.rt"
 HEADER = "use mathlib.Core.List.{List, _++_}\n"
@@ -15,6 +16,8 @@ FAULTS = (
     ("promises", FIND, "\nfn holds", "\npub extern \"C\" fn holds", "holds has no lemma"),
     ("promises", DETERMINED, "pub bytes-of :", "bytes-of :", "bytes_of has no lemma"),
     ("promises", DETERMINED, "r₁ ≡ firstFrom v b at → r₂ ≡ firstFrom v b at →", "r₁ ≡ r₂ →", "the lemma of find"),
+    ("promises", EXPORT, "SealedInPlace (now (key .entry)) (now (nonce .entry))",
+     "SealedInPlace (now (nonce .entry)) (now (key .entry))", "the parameters of votrikany_seal_in_place"),
     ("imports", FILL, "\nghost use Prim", "\nuse crate::copying::copy;\nghost use Prim", "copy is unused"),
     ("imports", FILL, "take, replicate}", "take, drop, replicate}", "drop is unused"),
     ("imports", FILL, "{_-_}", "{_-_, _+_}", "_+_ is unused"),

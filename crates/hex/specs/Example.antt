@@ -1,4 +1,5 @@
--- Digits with literals: 0x1f is `1f`; 01 23 45 67 89 ab cd ef are the sixteen digits in their order, and back.
+-- Digits with literals: 0x1f is `1f`; 01 23 45 67 89 ab cd ef are the sixteen digits in their order, and back; with the
+-- digits of each byte exchanged, so that each stands in both places.
 -- Assumes nothing.
 use Prim.Native.Nat.{ℕ}
 use mathlib.Core.Path.{_≡_}
@@ -17,5 +18,8 @@ digits =
 pub record Example : Type 0 where
   pub high-first : hexOf (0x1f ∷ []) ≡ 0x31 ∷ 0x66 ∷ []
   pub written : hexOf bytes ≡ digits
+  pub exchanged : hexOf (0x10 ∷ 0x32 ∷ 0x54 ∷ 0x76 ∷ 0x98 ∷ 0xba ∷ 0xdc ∷ 0xfe ∷ [])
+      ≡ 0x31 ∷ 0x30 ∷ 0x33 ∷ 0x32 ∷ 0x35 ∷ 0x34 ∷ 0x37 ∷ 0x36 ∷ 0x39 ∷ 0x38 ∷ 0x62 ∷ 0x61 ∷ 0x64 ∷ 0x63 ∷ 0x66 ∷ 0x65
+      ∷ []
   pub taken : allDigits digits ≡ true
   pub read : unhex digits ≡ bytes

@@ -2,14 +2,13 @@
 use Prim.Native.Nat.{ℕ, _+_, _-_}
 use mathlib.Core.Path.{_≡_}
 use mathlib.Core.Logic.{_↔_}
-use mathlib.Core.List.{List, _++_}
+use mathlib.Core.List.{List, _∷_, _++_}
 use lib.ListN.{length, replicate}
 use Rattle.morus.specs.Seal.{sealTag}
 use Rattle.run.specs.Line.{lineAt}
 use Rattle.run.specs.Read.{Verdict, reading}
 use Rattle.run.specs.Run.{Entry}
 use Rattle.journal.specs.declared.Line.{Line}
-use Rattle.journal.specs.Frame.{frameWith}
 use Rattle.journal.specs.Line.{Made}
 
 -- a front, then 0xaa up to the buffer's size
@@ -22,7 +21,7 @@ handed key nonce ad message size = record {
   number = 0;
   n = length ad;
   m = length message;
-  buffer = filledBehind size (frameWith nonce ad message (sealTag key nonce ad message));
+  buffer = filledBehind size (nonce ++ (length ad ∷ (ad ++ (message ++ sealTag key nonce ad message))));
 }
 
 -- opened exactly if the line at the place is made by the sealing; and then what went in is handed out

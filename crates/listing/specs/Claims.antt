@@ -1,5 +1,5 @@
 -- The words of the theorems.
-use Prim.Native.Nat.{ℕ, _+_, _-_, _*_}
+use Prim.Native.Nat.{ℕ, _+_, _-_, _*_, _≤_}
 use mathlib.Core.Path.{_≡_}
 use mathlib.Core.Bool.{true, false, cond}
 use mathlib.Core.List.{List, [], _∷_, _++_}
@@ -8,6 +8,7 @@ use lib.Dec.{ltb}
 use Rattle.hex.specs.Hex.{hexOf}
 use Rattle.run.specs.Line.{newline}
 use Rattle.answers.specs.Numbers.{done}
+use Rattle.listing.specs.Decimal.{decimal}
 use Rattle.listing.specs.Text.{space, spaced}
 use Rattle.listing.specs.Promise.{PieceFilled}
 use Rattle.listing.specs.declared.report.Piece.{Piece}
@@ -26,6 +27,15 @@ sealedText place ad message =
     spaced (place ∷ done ∷ length ad ∷ length message ∷ [])
     ++ cond (ltb 0 (length message)) (space ∷ hexOf message) []
     ++ (newline ∷ [])
+
+-- and of a line that was refused: its place, its number and two zeros
+abbrev pub refusedText : (place number : ℕ) → List ℕ
+refusedText place number = decimal place ++ (32 ∷ (decimal number ++ (32 ∷ 48 ∷ 32 ∷ 48 ∷ 10 ∷ [])))
+
+-- each byte is one of the digits 0 to 9
+abbrev pub Digits : List ℕ → Type 0
+Digits [] = Unit {0}
+Digits (d ∷ ds) = (48 ≤ d) × (d ≤ 57) × Digits ds
 
 -- the number that decimal digits say, behind digits that said `before`
 abbrev pub numberIn : (before : ℕ) → (digits : List ℕ) → ℕ

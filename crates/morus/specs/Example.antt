@@ -1,10 +1,12 @@
--- A worked example, with literals, of the key and the nonce of the crate state's: data of one block, with no padded
--- block behind it, and a message of a block and a byte. The bytes are the Rust crate's answers.
-use Prim.Native.Nat.{ℕ}
+-- Worked examples, with literals, of the key and the nonce of the crate state's: data of one block, with no padded
+-- block behind it, and a message of a block and a byte; data of a block and five bytes, and a message of two blocks;
+-- nothing. The bytes are the Rust crate's answers. And the length lane, for all lengths.
+use Prim.Native.Nat.{ℕ, _*_}
 use mathlib.Core.Path.{_≡_}
-use mathlib.Core.List.{List, [], _∷_}
+use mathlib.Core.List.{List, [], _∷_, _++_}
+use Rattle.state.specs.Lane.{lane4}
 use Rattle.state.specs.Example.{key, nonce}
-use Rattle.morus.specs.Seal.{seal, sealTag}
+use Rattle.morus.specs.Seal.{lengths, seal, sealTag}
 
 abbrev pub ad : List ℕ
 ad =
@@ -19,6 +21,13 @@ message =
     ∷ 0x60
     ∷ []
 
+-- a block and five bytes, and two blocks
+abbrev pub parted : List ℕ
+parted = ad ++ (0x80 ∷ 0x81 ∷ 0x82 ∷ 0x83 ∷ 0x84 ∷ [])
+
+abbrev pub two-blocks : List ℕ
+two-blocks = ad ++ ad
+
 pub record Example : Type 0 where
   pub ciphertext : seal key nonce ad message
       ≡ 0x92 ∷ 0xa1 ∷ 0x62 ∷ 0x9f ∷ 0x41 ∷ 0xac ∷ 0xae ∷ 0x4f ∷ 0x85 ∷ 0x6b ∷ 0x4d ∷ 0xc3 ∷ 0xd5 ∷ 0x17 ∷ 0x19 ∷ 0xa4
@@ -28,3 +37,10 @@ pub record Example : Type 0 where
   pub tag : sealTag key nonce ad message
       ≡ 0x69 ∷ 0x47 ∷ 0x3b ∷ 0xbb ∷ 0x39 ∷ 0xb8 ∷ 0x4d ∷ 0x58 ∷ 0x8d ∷ 0xfb ∷ 0x6d ∷ 0x78 ∷ 0x89 ∷ 0x09 ∷ 0x54 ∷ 0xb1
       ∷ []
+  pub parted-tag : sealTag key nonce parted two-blocks
+      ≡ 0x24 ∷ 0xae ∷ 0x32 ∷ 0x19 ∷ 0x7d ∷ 0xee ∷ 0x38 ∷ 0xcc ∷ 0x9c ∷ 0x99 ∷ 0xb1 ∷ 0xeb ∷ 0x17 ∷ 0xbc ∷ 0xed ∷ 0x8f
+      ∷ []
+  pub tag-of-nothing : sealTag key nonce [] []
+      ≡ 0xcb ∷ 0x59 ∷ 0xea ∷ 0x9d ∷ 0x87 ∷ 0xc8 ∷ 0xc9 ∷ 0x5a ∷ 0x41 ∷ 0xf6 ∷ 0x78 ∷ 0xdc ∷ 0x93 ∷ 0x66 ∷ 0x96 ∷ 0x26
+      ∷ []
+  pub length-lane : (d m : ℕ) → lengths d m ≡ lane4 (8 * d) (8 * m) 0 0
