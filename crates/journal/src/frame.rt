@@ -45,14 +45,13 @@ fn frame_number(frame: &[u8]) -> u8
         return numbers::FRAME_TOO_SHORT;
     }
     let n = frame[sizes::NONCE] as usize;
-    let least = sizes::FIXED + n;
     if sizes::MOST_DATA < n {
         return numbers::DATA_TOO_LONG;
     }
-    if frame.len() < least {
+    if frame.len() < sizes::FIXED + n {
         return numbers::DATA_PAST_FRAME;
     }
-    if sizes::MOST_MESSAGE < frame.len() - least {
+    if sizes::MOST_MESSAGE < frame.len() - (sizes::FIXED + n) {
         return numbers::MESSAGE_TOO_LONG;
     }
     numbers::DONE

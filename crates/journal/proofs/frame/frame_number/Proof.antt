@@ -15,9 +15,6 @@ returns c = simp (lt-leb _ _ (c .if1 .taken))
 cast-n : tie.Need-cast-n
 cast-n c = omega (arith, c .shared-slice-known .given nonceSize)
 
-add-least : tie.Need-add-least
-add-least c = omega (arith, c .shared-slice-known .given nonceSize)
-
 returns-2 : tie.Need-returns-2
 unfolding firstFailing frameRows
 returns-2 c = simp (le-leb _ _ (c .before .before .if1 .left), lt-leb _ _ (c .if2 .taken))
@@ -41,9 +38,10 @@ frame-number-spec =
     returns
     (λ c. search needs)
     cast-n
-    add-least
     returns-2
+    (λ c. search needs)
     returns-3
+    (λ c. search needs)
     (λ c. search needs)
     returns-4
     returns-5)
