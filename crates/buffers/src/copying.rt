@@ -7,7 +7,7 @@ ghost use Rattle.buffers.specs.Bytes.{padded};
 ghost use Rattle.buffers.specs.Copy.{allOver, partOver};
 
 // How many bytes there are from byte `at` on, of `len` bytes, and at most `most`.
-pub(crate) fn room(len: usize, at: usize, most: usize) -> usize
+fn room(len: usize, at: usize, most: usize) -> usize
     ensures { λ r. ⌜ r ≡ min (len - at) most ⌝ }
 {
     if len <= at {

@@ -1,5 +1,4 @@
 // The search for a byte.
-use crate::copying::room;
 ghost use mathlib.Core.Path.{_≡_};
 ghost use Rattle.buffers.specs.Find.{has, firstFrom};
 
@@ -24,8 +23,13 @@ fn holds(b: &[u8], v: u8) -> bool
 fn skip(b: &[u8], from: usize, v: u8) -> usize
     ensures { λ r. ⌜ firstFrom v (now (b .entry)) r ≡ firstFrom v (now (b .entry)) from ⌝ }
 {
+    if b.len() < BLOCK {
+        return from;
+    }
+    // One test a turn: a block from here on is whole.
+    let last = b.len() - BLOCK;
     let mut i = from;
-    while room(b.len(), i, BLOCK) == BLOCK {
+    while i <= last {
         if holds(&b[i..i + BLOCK], v) {
             return i;
         }
