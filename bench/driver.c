@@ -18,7 +18,8 @@ enum { MOST = 65536, LINE = 707, FRAME = 353 };
 typedef uint8_t seal_call(const uint8_t *, const uint8_t *, const uint8_t *, size_t, uint8_t *, size_t, uint8_t *);
 typedef uint8_t open_call(const uint8_t *, const uint8_t *, const uint8_t *, size_t, uint8_t *, size_t, const uint8_t *);
 typedef uint8_t write_call(const uint8_t *, const uint8_t *, const uint8_t *, size_t, const uint8_t *, size_t, uint8_t *, size_t, size_t *);
-typedef uint8_t read_call(const uint8_t *, size_t, size_t, const uint8_t *, uint8_t *, size_t, size_t *, size_t *, size_t *);
+typedef uint8_t read_call(const uint8_t *, size_t, size_t, const uint8_t *, uint8_t *, size_t, size_t *, size_t *, size_t *,
+                          size_t *);
 
 seal_call rust_seal_in_place;
 open_call rust_open_in_place;
@@ -43,9 +44,10 @@ static uint8_t none_write(const uint8_t *k, const uint8_t *o, const uint8_t *a, 
     return 0;
 }
 
-static uint8_t none_read(const uint8_t *j, size_t l, size_t p, const uint8_t *k, uint8_t *f, size_t r, size_t *e, size_t *n, size_t *m)
+static uint8_t none_read(const uint8_t *j, size_t l, size_t p, const uint8_t *k, uint8_t *f, size_t r, size_t *e, size_t *n,
+                         size_t *m, size_t *a)
 {
-    (void)j, (void)l, (void)p, (void)k, (void)f, (void)r, (void)e, (void)n, (void)m;
+    (void)j, (void)l, (void)p, (void)k, (void)f, (void)r, (void)e, (void)n, (void)m, (void)a;
     return 0;
 }
 
@@ -71,7 +73,7 @@ static size_t n, m, line_size;
 /* What comes out. */
 struct outcome {
     uint8_t number, tag[16], text[MOST], line[LINE], frame[FRAME];
-    size_t size, next, n, m;
+    size_t size, next, n, m, at;
 };
 
 static void prepare(size_t data, size_t text)
@@ -109,7 +111,7 @@ static void call(const char *kind, const struct side *s, struct outcome *o)
         o->number = s->write(key, nonce, ad, n, message, m, o->line, sizeof o->line, &o->size);
         break;
     default:
-        o->number = s->read(line, line_size, 0, key, o->frame, sizeof o->frame, &o->next, &o->n, &o->m);
+        o->number = s->read(line, line_size, 0, key, o->frame, sizeof o->frame, &o->next, &o->n, &o->m, &o->at);
     }
 }
 

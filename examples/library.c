@@ -1,4 +1,4 @@
-/* Votrikany from C: seals and opens a message, writes two lines of a journal and reads them back, one of them damaged.
+/* Votrikany from C: seals and opens a message, writes two lines of a journal and reads them back, whole and damaged.
  *   cc -Iinclude examples/library.c target/staticlib/libexport.a
  */
 #include <stdio.h>
@@ -51,10 +51,10 @@ static size_t add_line(uint8_t *journal, size_t end, size_t room, uint8_t count,
 static void read_all(const uint8_t *journal, size_t length)
 {
     uint8_t frame[VOTRIKANY_FRAME_SIZE];
-    size_t place = 0, next, n, m;
+    size_t place = 0, next, n, m, at;
     for (;;) {
-        uint8_t number = votrikany_read_line(journal, length, place, key, frame, sizeof frame, &next, &n, &m);
-        printf("%zu %d %zu %zu", place, number, n, m);
+        uint8_t number = votrikany_read_line(journal, length, place, key, frame, sizeof frame, &next, &n, &m, &at);
+        printf("%zu %d %zu %zu %zu", place, number, n, m, at);
         if (number == VOTRIKANY_DONE)
             printf(" %.*s: %.*s", (int)n, (const char *)frame + VOTRIKANY_DATA_AT, (int)m, (const char *)frame + VOTRIKANY_DATA_AT + n);
         printf("\n");
@@ -72,7 +72,9 @@ int main(void)
     end = add_line(journal, end, sizeof journal, 2, "resident 4096 KB");
     end = add_line(journal, end, sizeof journal, 3, "active 1024 KB");
     read_all(journal, end);
-    journal[10] = journal[10] == '0' ? '1' : '0';
+    journal[10] = journal[10] == '0' ? '1' : '0'; /* another digit: the tag differs */
+    read_all(journal, end);
+    journal[120] = 'g'; /* no digit: the answer says where */
     read_all(journal, end);
     return 0;
 }

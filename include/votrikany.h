@@ -113,11 +113,13 @@ uint8_t votrikany_write_line(const uint8_t *key, const uint8_t *nonce, const uin
  *   Any other number: every byte of `frame` is 0xaa, `*n` and `*m` are 0. `*next` is one past the line's newline for 1 and
  *   4 to 10, the journal's length for 11, and `place` for 12, 13 and 14.
  *   They are looked for in the order 13, 12, 14, 11, 4, 5, 6, 7, 8, 9, 10, 1.
+ *   With 5, `*at` is the place of the line's first byte that is not 0-9 or a-f, counted from the journal's start as
+ *   `place` is; with every other number, 0 too, `*at` is `place`.
  * From place 0, with `*next` for the next place and a frame buffer of 353 bytes or more, a journal of L bytes answers
  * 14 by call L + 1.
  */
 uint8_t votrikany_read_line(const uint8_t *journal, size_t journal_length, size_t place, const uint8_t *key,
-                            uint8_t *frame, size_t frame_length, size_t *next, size_t *n, size_t *m);
+                            uint8_t *frame, size_t frame_length, size_t *next, size_t *n, size_t *m, size_t *at);
 
 #ifdef __cplusplus
 }

@@ -9,6 +9,9 @@ from make_cases import EDGES, LIMIT, flipped, line, some
 
 SIZES = (0, 1, 352, 353, 354, 400, 1000)
 MOST = 2**64 - 1
+# what is no digit and ends no line: every such byte, and those that are nearest to being one
+BAD = bytes(sorted(set(range(256)) - set(b"0123456789abcdef\n")))
+NEAR = b"/:`g@GAF \r\0\xff"
 
 
 class Reading:
@@ -56,9 +59,18 @@ def shaped(rng):
     return some(rng, rng.randrange(1, 40)).replace(b"\n", b"") + b"\n"
 
 
+def bad_digits(rng, text):
+    """One to three bytes of the line that are no digits, each of them the first, the last or any."""
+    out, last = bytearray(text), len(text) - 2
+    for _ in range(rng.choice((1, 1, 2, 3))):
+        out[rng.choice((0, last, rng.randrange(last + 1)))] = rng.choice(rng.choice((BAD, NEAR)))
+    return bytes(out)
+
+
 def damaged(rng, text):
-    """One line damaged: a digit, a byte, a byte more or less, cut, its newline lost, uppercase, doubled, or too long."""
-    kind = rng.randrange(11)
+    """One line damaged: a digit, a byte, a byte more or less, cut, its newline lost, uppercase, doubled, too long, of
+    another shape, or with bytes that are no digits."""
+    kind = rng.randrange(13)
     at = rng.randrange(len(text))
     if kind == 0:
         return text[:at] + bytes([rng.choice(b"0123456789abcdef")]) + text[at + 1:]
@@ -80,7 +92,9 @@ def damaged(rng, text):
         return b"\n" * rng.randrange(1, 4)
     if kind == 9:
         return text[:-1] + b"0" * (706 - (len(text) - 1) + rng.randrange(3)) + b"\n"
-    return shaped(rng)
+    if kind == 10:
+        return shaped(rng)
+    return bad_digits(rng, text)
 
 
 def journal(rng, lines):
@@ -125,6 +139,17 @@ def random_cases(count, seed, ask):
             yield case, None
 
 
+def not_digits(good):
+    """Lines with bytes that are no digits: the first, the last, several, in lines of any length and in later ones."""
+    edges = [bytes([b]) for b in NEAR] + [b"\x0b", b"\x7f", b"\x80"]
+    return [
+        *(b"0" + edge + b"\n" for edge in edges), b"g\n", b"g0\n", b"0:0/\n", b"000\xff\0\n", b"\0\xff\n", b"00\r\n",
+        b"g" + good[1:], good[:-2] + b"G\n", b" " + good[1:-2] + b" \n",
+        good[:40] + b"\0" + good[41:60] + b"\xff" + good[61:], b"0" * 705 + b"g\n", b"g" * 706 + b"\n",
+        b"0" * 706 + b"g\n", b"\nabc\n0g0g\n", good + good[:-2] + b":\n" + good,
+    ]
+
+
 def fixed_cases(ask):
     """The journal's part of the list: every answer of the table, and the edges of sizes and places."""
     rng = random.Random(353)
@@ -142,9 +167,11 @@ def fixed_cases(ask):
         b"00" * 32 + b"\n", b"00" * 33 + b"\n", frame_line(bytes(16) + b"\x41" + bytes(100)), frame_line(bytes(16) + b"\x40" + bytes(79)),
         frame_line(bytes(16) + b"\x01" + bytes(16)), frame_line(bytes(353)), frame_line(bytes(16) + b"\x3f" + bytes(336)), good[:-3] + b"0\n", good[:-1], good + good, good[:-1] + good,
     ]
-    for text in bad:
+    for text in bad + not_digits(good):
         for place in [0] + [i + 1 for i, b in enumerate(text) if b == 10]:
             yield line("read", key, place, 353, text), None
+    for place in (1, 2, 3, 4):
+        yield line("read", key, place, 353, b"0g0g\n"), None
     for size in (0, 352, 353, 354, 1000):
         yield line("read", key, 0, size, good), None
     for place in (1, len(good) - 1, len(good), len(good) + 1, MOST):

@@ -18,6 +18,8 @@ FAULTS = (
     ("promises", DETERMINED, "r₁ ≡ firstFrom v b at → r₂ ≡ firstFrom v b at →", "r₁ ≡ r₂ →", "the lemma of find"),
     ("promises", EXPORT, "SealedInPlace (now (key .entry)) (now (nonce .entry))",
      "SealedInPlace (now (nonce .entry)) (now (key .entry))", "the parameters of votrikany_seal_in_place"),
+    ("promises", EXPORT, "(now (m .exit)) (now (at .exit))", "(now (at .exit)) (now (m .exit))",
+     "the parameters of votrikany_read_line"),
     ("imports", FILL, "\nghost use Prim", "\nuse crate::copying::copy;\nghost use Prim", "copy is unused"),
     ("imports", FILL, "take, replicate}", "take, drop, replicate}", "drop is unused"),
     ("imports", FILL, "{_-_}", "{_-_, _+_}", "_+_ is unused"),

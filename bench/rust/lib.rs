@@ -76,6 +76,7 @@ pub unsafe extern "C" fn rust_read_line(
     next: &mut usize,
     n: &mut usize,
     m: &mut usize,
+    at: &mut usize,
 ) -> u8 {
     let answer = journal::read_line(
         from_raw_parts(text, length),
@@ -86,5 +87,6 @@ pub unsafe extern "C" fn rust_read_line(
     *next = answer.next;
     *n = answer.n;
     *m = answer.m;
+    *at = answer.at;
     answer.number
 }

@@ -20,19 +20,19 @@ fn listing(key: &[u8; 16], text: &[u8], out: &mut Vec<u8>) {
     let mut frame = [0u8; 353];
     let mut place = 0;
     loop {
-        let answer = journal::read_line(text, place, key, &mut frame);
-        write!(out, "{} {} {} {}", place, answer.number, answer.n, answer.m).unwrap();
-        if answer.number == 0 && answer.m > 0 {
+        let a = journal::read_line(text, place, key, &mut frame);
+        write!(out, "{} {} {} {} {}", place, a.number, a.n, a.m, a.at).unwrap();
+        if a.number == 0 && a.m > 0 {
             out.push(b' ');
-            let (start, at) = (17 + answer.n, out.len());
-            out.resize(at + 2 * answer.m, 0);
-            journal::encode(&frame[start..start + answer.m], &mut out[at..]);
+            let (start, end) = (17 + a.n, out.len());
+            out.resize(end + 2 * a.m, 0);
+            journal::encode(&frame[start..start + a.m], &mut out[end..]);
         }
         out.push(b'\n');
-        if answer.number == 14 {
+        if a.number == 14 {
             return;
         }
-        place = answer.next;
+        place = a.next;
     }
 }
 

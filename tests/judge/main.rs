@@ -94,7 +94,7 @@ fn write(w: &[&str]) -> String {
 fn read(w: &[&str]) -> String {
     let mut frame = vec![BEFORE; number(w[3])];
     let a = journal::read_line(&bytes(w[4]), number(w[2]), &sixteen(w[1]), &mut frame);
-    format!("{} {} {} {} {}", a.number, a.next, a.n, a.m, digits(&frame))
+    format!("{} {} {} {} {} {}", a.number, a.next, a.n, a.m, a.at, digits(&frame))
 }
 
 fn answer(line: &str) -> String {

@@ -1,6 +1,71 @@
 //! The journal of bindings/rust: what is written is read back, and refusals leave what the header says.
 use votrikany::journal::{read_line, write_line, Answer, Line, FRAME_SIZE, LONGEST_LINE};
 
+/// A reading of the line at `place` in a text that ends with it, which is refused with a number and says a place.
+fn refused(text: &[u8], place: usize, number: u8, at: usize) {
+    let mut frame = [0u8; FRAME_SIZE];
+    let answer = read_line(text, place, &[7; 16], &mut frame);
+    let wanted = Answer {
+        number,
+        next: text.len(),
+        n: 0,
+        m: 0,
+        at,
+    };
+    assert_eq!(answer, wanted, "{:?} at {}", text, place);
+    assert_eq!(frame, [0xaa; FRAME_SIZE]);
+}
+
+/// The line at 4, behind an empty one and `0g`, with the place that is said.
+fn third_line(line: &[u8], number: u8, at: usize) {
+    let text = [b"\n0g\n", line, b"\n"].concat();
+    refused(&text, 4, number, at);
+}
+
+/// A line of `digits` zeros with the count n.
+fn zeros(digits: usize, n: u8) -> Vec<u8> {
+    let mut line = vec![b'0'; digits];
+    if digits >= 34 {
+        line[32..34].copy_from_slice(format!("{:02x}", n).as_bytes());
+    }
+    line
+}
+
+/// With 5 the place of the first byte that is no digit, from the journal's start; else the place given.
+fn places() {
+    refused(b"0g\n", 0, 5, 1);
+    refused(b"\n0g\n", 1, 5, 2);
+    for (line, at) in [
+        (b"g000".as_slice(), 4),
+        (b"000g", 7),
+        (b"0/:0", 5),
+        (b"00\0\xff", 6),
+        (b"0\xff\0", 5),
+        (b"abcdEf", 8),
+        (b"ab ", 6),
+    ] {
+        third_line(line, 5, at);
+    }
+    for (digits, n, number) in [
+        (707, 0, 4),
+        (67, 0, 6),
+        (0, 0, 7),
+        (64, 0, 7),
+        (66, 65, 8),
+        (66, 1, 9),
+        (706, 0, 10),
+        (66, 0, 1),
+    ] {
+        third_line(&zeros(digits, n), number, 4);
+    }
+    refused(b"\n0g\nabc", 4, 11, 4);
+    refused(b"\n0g\n", 4, 14, 4);
+    let beyond = read_line(b"0g\n", 9, &[7; 16], &mut [0; FRAME_SIZE]);
+    assert_eq!((beyond.number, beyond.next, beyond.at), (12, 9, 9));
+    let small = read_line(b"\n0g\n", 1, &[7; 16], &mut [0; 352]);
+    assert_eq!((small.number, small.next, small.at), (13, 1, 1));
+}
+
 fn main() {
     let (key, nonce) = ([7u8; 16], [9u8; 16]);
     let message: Vec<u8> = (0..=255).collect();
@@ -25,7 +90,8 @@ fn main() {
                     number: 0,
                     next: line.length,
                     n,
-                    m
+                    m,
+                    at: 0
                 }
             );
             assert_eq!(
@@ -40,7 +106,8 @@ fn main() {
                     number: 14,
                     next: line.length,
                     n: 0,
-                    m: 0
+                    m: 0,
+                    at: line.length
                 }
             );
             assert!(frame.iter().all(|&b| b == 0xaa) && end.message(&frame).is_empty());
@@ -70,6 +137,7 @@ fn main() {
         }
     );
     assert_eq!(small, [0x55; 66]);
+    places();
     println!(
         "journal: {} lines written and read back, refusals as the header says",
         lines

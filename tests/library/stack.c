@@ -10,7 +10,7 @@ enum { ROOM = 65536, LONG = 5000 };
 
 static const uint8_t key[16] = { 1, 2, 3 }, nonce[16] = { 4, 5, 6 };
 static uint8_t data[LONG], text[LONG], out[LONG], tag[16], line[800], frame[400], stack[ROOM];
-static size_t data_length, text_length, out_length, line_length, place, next, n, m;
+static size_t data_length, text_length, out_length, line_length, place, next, n, m, at;
 static uint8_t number;
 static size_t calls, most;
 static int failed;
@@ -42,7 +42,7 @@ static void write_line(void)
 
 static void read_line(void)
 {
-    number = votrikany_read_line(line, line_length, place, key, frame, sizeof frame, &next, &n, &m);
+    number = votrikany_read_line(line, line_length, place, key, frame, sizeof frame, &next, &n, &m, &at);
 }
 
 static size_t used(void (*call)(void), uint8_t paint)

@@ -17,6 +17,7 @@ pub struct Answer {
     pub next: usize,
     pub n: usize,
     pub m: usize,
+    pub at: usize,
 }
 
 pub fn write_line(
@@ -143,6 +144,14 @@ fn read(
     }
 }
 
+/// The place of the first byte from `place` on that is no digit; there is one.
+fn not_digit(journal: &[u8], place: usize) -> usize {
+    let digits = journal[place..]
+        .iter()
+        .take_while(|&&byte| digit(byte).is_some());
+    place + digits.count()
+}
+
 pub fn read_line(journal: &[u8], place: usize, key: &[u8; 16], frame: &mut [u8]) -> Answer {
     match read(journal, place, key, frame) {
         (next, Ok((count, n, m))) => {
@@ -152,15 +161,21 @@ pub fn read_line(journal: &[u8], place: usize, key: &[u8; 16], frame: &mut [u8])
                 next,
                 n,
                 m,
+                at: place,
             }
         }
         (next, Err(number)) => {
             frame.fill(REFUSED);
+            let at = match number {
+                5 => not_digit(journal, place),
+                _ => place,
+            };
             Answer {
                 number,
                 next,
                 n: 0,
                 m: 0,
+                at,
             }
         }
     }

@@ -16,13 +16,15 @@ pub struct Line {
     pub length: usize,
 }
 
-/// What reading answers: a number, the next place, and how many bytes of data and of message there are.
+/// What reading answers: a number, the next place, how many bytes of data and of message there are, and a place: with
+/// number 5 that of the line's first byte that is no digit, counted from the journal's start, else the place given.
 #[derive(Debug, Clone, Copy, Eq, PartialEq)]
 pub struct Answer {
     pub number: u8,
     pub next: usize,
     pub n: usize,
     pub m: usize,
+    pub at: usize,
 }
 
 impl Answer {
@@ -54,7 +56,15 @@ pub fn write_line(key: &Key, nonce: &Nonce, data: &[u8], message: &[u8], line: &
 
 /// Reads the line that starts at `place` and opens its frame into `frame`; whatever is not an opened frame there is 0xaa.
 pub fn read_line(journal: &[u8], place: usize, key: &Key, frame: &mut [u8]) -> Answer {
-    let (mut next, mut n, mut m) = (0, 0, 0);
-    let number = library::read_line(journal, place, key, frame, &mut next, &mut n, &mut m);
-    Answer { number, next, n, m }
+    let (mut next, mut n, mut m, mut at) = (0, 0, 0, 0);
+    let number = library::read_line(
+        journal, place, key, frame, &mut next, &mut n, &mut m, &mut at,
+    );
+    Answer {
+        number,
+        next,
+        n,
+        m,
+        at,
+    }
 }

@@ -69,6 +69,7 @@ extern "C" {
         next: *mut usize,
         n: *mut usize,
         m: *mut usize,
+        at: *mut usize,
     ) -> u8;
 }
 
@@ -172,6 +173,7 @@ pub fn read_line(
     next: &mut usize,
     n: &mut usize,
     m: &mut usize,
+    at: &mut usize,
 ) -> u8 {
     unsafe {
         votrikany_read_line(
@@ -184,6 +186,7 @@ pub fn read_line(
             next,
             n,
             m,
+            at,
         )
     }
 }

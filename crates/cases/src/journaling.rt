@@ -55,4 +55,5 @@ pub(crate) fn read(line: &[u8]) -> Answer {
         .with(r.next)
         .with(r.n)
         .with(r.m)
+        .with(r.at)
 }

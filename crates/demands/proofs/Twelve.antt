@@ -15,7 +15,7 @@ use Rattle.journal.proofs.Rows.{frame-fails}
 use Rattle.journal.proofs.Sizes.{line-size}
 use Rattle.demands.specs.Twelve.{Twelve}
 
-ten : (key f : List ℕ) (size : ℕ) → length f ≡ 353 → getD f 16 0 ≡ 0 → readFrame key f size ≡ blank 10 size
+ten : (key f : List ℕ) (size : ℕ) → length f ≡ 353 → getD f 16 0 ≡ 0 → readFrame key f size ≡ blank 10 0 size
 unfolding firstFailing frameRows refused
 ten key f size h e = frame-fails key f size 10 (rw (h, e)) (omega arith)
 

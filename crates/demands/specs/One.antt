@@ -1,8 +1,8 @@
 -- Demand 1. No entry point has a premise: no contract of theirs has a `requires`, which is no theorem, and which
 -- tests/gate-promises reads. Every call ends: a proof of a function is a proof that it returns.
 -- Bad input gets the number of the table. After any refused opening every byte of the output buffer is 0xaa; after a
--- refused sealing it is untouched and the tag is zero. Each number with literals, every earlier test negated, is in
--- Answers of the crates morus, run and journal.
+-- refused sealing it is untouched and the tag is zero. Each number with literals, every earlier test negated, and the
+-- place that the reader says with it, is in Answers of the crates morus, run and journal.
 use Prim.Native.Nat.{ℕ}
 use mathlib.Core.List.{List}
 use Rattle.morus.specs.declared.Sealed.{Sealed}

@@ -23,7 +23,8 @@ pub record Journal (key : List ℕ) (size : ℕ) : Type 0 where
   -- the answers start at 0 and after each newline, up to the end, each once; and the end answer comes by call L + 1
   pub every-line : (j : List ℕ) → places (run key j size) ≡ starts j
   pub ends : (j : List ℕ) → Ends (readText key) j size
-  -- two journals: T's lines are answered alike, and places and next places differ by the difference in length
+  -- two journals: T's lines are answered alike, and places, next places and the places that answers are about differ by
+  -- the difference in length
   pub two-journals : (A B T : List ℕ)
       → Pairwise (Alike (length A) (length B))
       (answersFrom (length A + 1) (run key (A ++ 10 ∷ T) size))

@@ -29,4 +29,4 @@ pub record Twelve : Type 0 where
   pub case11 : (key nonce ad message : List ℕ) → length nonce ≡ 16 → length ad ≡ 64 → length message ≡ 256 → length (lineOf key nonce ad message) ≡ 707
   -- whatever stands in its other bytes
   pub case12 : (key f : List ℕ) (size : ℕ) → length f ≡ 353 → getD f 16 0 ≡ 0
-      → (mIn f ≡ 320) × (readFrame key f size ≡ blank 10 size)
+      → (mIn f ≡ 320) × (readFrame key f size ≡ blank 10 0 size)

@@ -30,9 +30,9 @@ module _ (key nonce ad : List ℕ) where
       (ap (λ (l : Line). l .number) e, p .buffer ∙ sym (q .buffer), ap (λ (l : Line). l .length) e)
 
 pub votrikany-read-line : (journal : List ℕ) (place : ℕ) (key frame : List ℕ) {r₁ r₂ : ℕ} {x₁ x₂ : List ℕ}
-    {p₁ p₂ n₁ n₂ m₁ m₂ : ℕ}
-    → Read journal place key frame r₁ x₁ p₁ n₁ m₁ → Read journal place key frame r₂ x₂ p₂ n₂ m₂
-    → (r₁ ≡ r₂) × (x₁ ≡ x₂) × (p₁ ≡ p₂) × (n₁ ≡ n₂) × (m₁ ≡ m₂)
+    {p₁ p₂ n₁ n₂ m₁ m₂ a₁ a₂ : ℕ}
+    → Read journal place key frame r₁ x₁ p₁ n₁ m₁ a₁ → Read journal place key frame r₂ x₂ p₂ n₂ m₂ a₂
+    → (r₁ ≡ r₂) × (x₁ ≡ x₂) × (p₁ ≡ p₂) × (n₁ ≡ n₂) × (m₁ ≡ m₂) × (a₁ ≡ a₂)
 votrikany-read-line journal place key frame p q =
     let e = p .answer ∙ sym (q .answer) in (
       ap (λ (a : Answer). a .number) e,
@@ -40,4 +40,5 @@ votrikany-read-line journal place key frame p q =
       ap (λ (a : Answer). a .next) e,
       ap (λ (a : Answer). a .n) e,
       ap (λ (a : Answer). a .m) e,
+      ap (λ (a : Answer). a .at) e,
     )

@@ -63,6 +63,7 @@ functions =
             next = ap (λ (x : Answer). x .next) a;
             n = ap (λ (x : Answer). x .n) a;
             m = ap (λ (x : Answer). x .m) a;
+            at = ap (λ (x : Answer). x .at) a;
             buffer = h .1;
           };
     }

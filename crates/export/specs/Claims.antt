@@ -19,11 +19,12 @@ pub record Back (text : List ℕ) (number : ℕ) (out' : List ℕ) : Type 0 wher
 
 -- a line of `size` bytes, written and then read at a place: what went in is handed out, and every byte behind is 170
 pub record ReadBack (key nonce ad message frame : List ℕ) (place size : ℕ)
-    (number : ℕ) (frame' : List ℕ) (next' n' m' : ℕ) : Type 0 where
+    (number : ℕ) (frame' : List ℕ) (next' n' m' at' : ℕ) : Type 0 where
   pub done : number ≡ 0
   pub next : next' ≡ place + size
   pub n : n' ≡ length ad
   pub m : m' ≡ length message
+  pub at : at' ≡ place
   pub buffer : frame'
       ≡ (nonce ++ length ad ∷ (ad ++ (message ++ sealTag key nonce ad message)))
       ++ replicate (length frame - (33 + length ad + length message)) 170
@@ -40,10 +41,10 @@ pub record Functions : Type 0 where
       → OpenedInto key nonce ad cipher tag out number out' → OpenAnswer key nonce ad cipher tag out number out'
   pub write-line : (key nonce ad message line : List ℕ) {number size' : ℕ} {line' : List ℕ}
       → Wrote key nonce ad message line number line' size' → WriteAnswer key nonce ad message line number size' line'
-  pub read-line : (journal key frame : List ℕ) (place : ℕ) {number next' n' m' : ℕ} {frame' : List ℕ}
-      → Read journal place key frame number frame' next' n' m'
+  pub read-line : (journal key frame : List ℕ) (place : ℕ) {number next' n' m' at' : ℕ} {frame' : List ℕ}
+      → Read journal place key frame number frame' next' n' m' at'
       → ReadAnswer key journal place (length frame)
-      (reading (record { number = number; n = n'; m = m'; buffer = frame' }) next')
+      (reading (record { number = number; n = n'; m = m'; at = at'; buffer = frame' }) next')
   -- what the one function has sealed or written, the other opens or reads
   pub back-in-place : (key nonce ad text : List ℕ) {number : ℕ} {text' tag' text'' : List ℕ}
       → SealedInPlace key nonce ad text 0 text' tag' → OpenedInPlace key nonce ad text' tag' number text''
@@ -51,8 +52,9 @@ pub record Functions : Type 0 where
   pub back-into : (key nonce ad message out back : List ℕ) {number : ℕ} {out' tag' back' : List ℕ}
       → SealedInto key nonce ad message out 0 out' tag' → length back ≡ length message
       → OpenedInto key nonce ad out' tag' back number back' → Back message number back'
-  pub read-back : (key nonce ad message line frame P T : List ℕ) {size number next' n' m' : ℕ} {line' frame' : List ℕ}
+  pub read-back : (key nonce ad message line frame P T : List ℕ)
+      {size number next' n' m' at' : ℕ} {line' frame' : List ℕ}
       → length nonce ≡ 16 → Bytes nonce → Bytes ad → Bytes message → 353 ≤ length frame
       → Wrote key nonce ad message line 0 line' size
-      → Read (P ++ (take size line' ++ T)) (length P) key frame number frame' next' n' m'
-      → ReadBack key nonce ad message frame (length P) size number frame' next' n' m'
+      → Read (P ++ (take size line' ++ T)) (length P) key frame number frame' next' n' m' at'
+      → ReadBack key nonce ad message frame (length P) size number frame' next' n' m' at'

@@ -26,7 +26,8 @@ abbrev pub Wrote : (key nonce ad message line : List ℕ) → (number : ℕ) →
 Wrote key nonce ad message line number line' size' =
     LineWritten key nonce ad message line (record { number = number; length = size' }) line'
 
--- a line read: the number is the result, the next place, n and m stand behind their pointers
-abbrev pub Read : (journal : List ℕ) → (place : ℕ) → (key frame : List ℕ) → (number : ℕ) → (frame' : List ℕ) → (next' n' m' : ℕ) → Type 0
-Read journal place key frame number frame' next' n' m' =
-    LineRead journal place key frame (record { number = number; next = next'; n = n'; m = m' }) frame'
+-- a line read: the number is the result, the next place, n, m and the answer's own place stand behind their pointers
+abbrev pub Read : (journal : List ℕ) → (place : ℕ) → (key frame : List ℕ) → (number : ℕ) → (frame' : List ℕ)
+    → (next' n' m' at' : ℕ) → Type 0
+Read journal place key frame number frame' next' n' m' at' =
+    LineRead journal place key frame (record { number = number; next = next'; n = n'; m = m'; at = at' }) frame'

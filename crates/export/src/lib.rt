@@ -107,13 +107,15 @@ pub extern "C" fn votrikany_read_line(
     next: &mut usize,
     n: &mut usize,
     m: &mut usize,
+    at: &mut usize,
 ) -> u8
-    ensures { λ r. ⌜ Read (now (journal .entry)) place (now (key .entry)) (now (frame .entry)) r (now (frame .exit)) (now (next .exit)) (now (n .exit)) (now (m .exit)) ⌝ }
+    ensures { λ r. ⌜ Read (now (journal .entry)) place (now (key .entry)) (now (frame .entry)) r (now (frame .exit)) (now (next .exit)) (now (n .exit)) (now (m .exit)) (now (at .exit)) ⌝ }
 {
     let k = *key;
     let answer = read_line(journal, place, k, frame);
     *next = answer.next;
     *n = answer.n;
     *m = answer.m;
+    *at = answer.at;
     answer.number
 }

@@ -7,13 +7,13 @@ use mathlib.Core.List.{List}
 use lib.ListN.{length}
 use borrow.Author.Tests.{le-leb, lt-leb, eq-eqb, ne-eqb}
 use Rattle.answers.specs.Rows.{firstFailing}
-use Rattle.hex.specs.Hex.{hexOf, allDigits, unhex}
+use Rattle.hex.specs.Hex.{hexOf, firstBad, allDigits, unhex}
 use Rattle.hex.specs.Promise.{front, ReadOf, WrittenOf}
 use Rattle.hex.specs.declared.answer.Read.the-variants as Answer
 use Rattle.hex.specs.declared.answer.Written.the-variants as Report
 
 module _ (text bytes : List ℕ) where
-  pub not-digit : allDigits text ≡ false → ReadOf text bytes Answer.NotDigit bytes
+  pub not-digit : allDigits text ≡ false → ReadOf text bytes (Answer.NotDigit (firstBad text)) bytes
   unfolding firstFailing
   not-digit d = record { answer = rw d; numbered = rw d; buffer = rw d }
 

@@ -4,4 +4,14 @@ use mathlib.Core.Path.{refl}
 use Rattle.hex.specs.Example.{Example}
 
 pub example : Example
-example = record { high-first = refl; written = refl; exchanged = refl; taken = refl; read = refl }
+example =
+    record {
+      high-first = refl;
+      written = refl;
+      exchanged = refl;
+      taken = refl;
+      read = refl;
+      first-of-two = refl;
+      uppercase = refl;
+      none-bad = refl;
+    }

@@ -1,20 +1,22 @@
--- What the loops need, by the index: one more digit tested, one more byte read, one more byte written. By induction on the text or the bytes.
+-- What the loops need, by the index: one more digit tested, the first bad byte, one more byte read, one more byte
+-- written. By induction on the text or the bytes.
 -- Assumes nothing.
 use Prim.Native.Nat.{ℕ, zero, suc, _+_, _*_, _/_, _%_, _≤_, _<_}
 use mathlib.Core.Path.{_≡_, refl, sym, ap, _∙_}
-use mathlib.Core.Bool.{Bool, true, false, _&&_}
+use mathlib.Core.Bool.{Bool, true, false, cond, _&&_}
 use mathlib.Core.List.{List, [], _∷_, _++_}
 use native.Mathlib.Omega.{arith}
 use native.Mathlib.Nat.{zero-add}
 use native.Mathlib.Numerals.{add-one}
 use lib.ListN.{length, getD, drop, set, length-append, length-drop, drop-of-length-le}
 use lib.Seq.{drop-cons, length-take-le, paste-suc, take-all}
-use Rattle.hex.specs.Hex.{digitOf, hexOf, isDigit, allDigits, valueOf, unhex}
+use Rattle.hex.specs.Hex.{digitOf, hexOf, isDigit, firstBad, allDigits, valueOf, unhex}
 use Rattle.hex.specs.Promise.{front}
-use Rattle.hex.proofs.Digit.{and-true, value}
+use Rattle.hex.proofs.Digit.{value}
+use Rattle.hex.proofs.Digits.{digits-cons, digits-split}
 
 digits-step : (s : List ℕ) (i : ℕ) → i < length s → allDigits (drop i s) ≡ isDigit (getD s i 0) && allDigits (drop (i + 1) s)
-digits-step s i h = rw (add-one, drop-cons s i 0)
+digits-step s i h = rw (add-one, drop-cons s i 0) (digits-cons (getD s i 0) (drop (suc i) s))
 
 and-assoc : (a b c : Bool) → (a && b) && c ≡ a && (b && c)
 and-assoc true b c = refl
@@ -32,10 +34,26 @@ module _ (s : List ℕ) (i : ℕ) (all : Bool) (so-far : all && allDigits (drop 
   pub digits-end : length s ≤ i → all ≡ allDigits s
   digits-end h = sym (and-end all) ∙ (rw (drop-of-length-le s h) at so-far)
 
+bad-step : (s : List ℕ) (i : ℕ) → i < length s
+    → firstBad (drop i s) ≡ cond (isDigit (getD s i 0)) (suc (firstBad (drop (i + 1) s))) 0
+bad-step s i h = rw (add-one, drop-cons s i 0)
+
+-- the first bad byte lies i bytes further than in what is left: so it stays behind a digit, and where there is a bad
+-- byte, or none is left, it is i
+module _ (s : List ℕ) (i : ℕ) (so-far : i + firstBad (drop i s) ≡ firstBad s) where
+  pub bad-behind : i < length s → isDigit (getD s i 0) ≡ true → i + 1 + firstBad (drop (i + 1) s) ≡ firstBad s
+  bad-behind h d = let e = rw (bad-step s i h, d) at so-far in omega arith
+
+  pub bad-here : i < length s → isDigit (getD s i 0) ≡ false → i ≡ firstBad s
+  bad-here h d = let e = rw (bad-step s i h, d) at so-far in omega arith
+
+  pub bad-end : length s ≤ i → i ≡ firstBad s
+  bad-end h = let e = rw (drop-of-length-le s h) at so-far in omega arith
+
 pub digit-at : (s : List ℕ) (i : ℕ) → allDigits s ≡ true → i < length s → isDigit (getD s i 0) ≡ true
 digit-at [] i d h = absurd (omega arith)
-digit-at (c ∷ cs) zero d h = and-true (isDigit c) (allDigits cs) d .0
-digit-at (c ∷ cs) (suc i) d h = digit-at cs i (and-true (isDigit c) (allDigits cs) d .1) (omega arith)
+digit-at (c ∷ cs) zero d h = digits-split c cs d .0
+digit-at (c ∷ cs) (suc i) d h = digit-at cs i (digits-split c cs d .1) (omega arith)
 
 pub small-at : (s : List ℕ) (i : ℕ) → allDigits s ≡ true → i < length s → valueOf (getD s i 0) < 16
 small-at s i d h = value (getD s i 0) (digit-at s i d h) .small

@@ -1,17 +1,22 @@
--- The digits of bytes are digits and decode to the bytes; digits decode to bytes whose digits they are. By induction, with the laws of one digit.
+-- The digits of bytes are digits and decode to the bytes; digits decode to bytes whose digits they are; a text that is
+-- refused for a byte has that byte. By induction, with the laws of one digit, and by the answer's cases.
 -- Assumes nothing.
 use Prim.Native.Nat.{ℕ, zero, suc, _+_, _*_, _/_, _%_, _≤_, _<_}
 use mathlib.Core.Path.{_≡_, refl, ap, _∙_}
-use mathlib.Core.Bool.{true, _&&_}
+use mathlib.Core.Bool.{Bool, true, false}
 use mathlib.Core.List.{List, [], _∷_, _++_}
 use native.Mathlib.Omega.{arith}
 use lib.ListN.{length, getD, drop}
-use Rattle.hex.specs.Hex.{hexOf, isDigit, allDigits, valueOf, unhex}
-use Rattle.hex.specs.Promise.{ReadOf}
+use lib.Dec.{leb, eqb}
+use Rattle.hex.specs.Hex.{hexOf, allDigits, valueOf, unhex}
+use Rattle.hex.specs.Promise.{number, badAt, ReadOf}
+use Rattle.hex.specs.Claims.{NotHex}
 use Rattle.hex.specs.declared.answer.Read.{Read}
 use Rattle.hex.specs.declared.answer.Read.the-variants as Answer
-use Rattle.hex.proofs.Digit.{and-true, digit, value}
+use Rattle.hex.proofs.Digit.{digit, value}
+use Rattle.hex.proofs.Digits.{digits-cons, digits-split}
 use Rattle.hex.proofs.Index.{unhex-length, hex-length, front-all}
+use Rattle.hex.proofs.Ranges.{bad-is}
 use Rattle.hex.proofs.Answers.{done}
 use Rattle.hex.proofs.Determined.{read}
 
@@ -31,7 +36,7 @@ coded (b ∷ bs) h =
     let lo = digit (b % 16) (omega arith) in
     record {
       back = rw (hi .back, lo .back, r .back) (ap (λ (x : ℕ). x ∷ bs) (omega arith));
-      digits = rw (hi .is, lo .is, r .digits);
+      digits = rw (digits-cons _ _, digits-cons _ _, hi .is, lo .is, r .digits);
       plain = λ i. plain (hexOf bs) (hi .plain) (lo .plain) (r .plain) i;
       len = hex-length (b ∷ bs);
     }
@@ -51,8 +56,8 @@ pub decoded : (s : List ℕ) → allDigits s ≡ true → length s % 2 ≡ 0 →
 decoded [] d e = record { back = refl; bytes = λ i. omega arith; len = refl }
 decoded (a ∷ []) d e = absurd (omega arith)
 decoded (a ∷ b ∷ r) d e =
-    let t = and-true (isDigit a) (isDigit b && allDigits r) d in
-    let u = and-true (isDigit b) (allDigits r) (t .1) in
+    let t = digits-split a (b ∷ r) d in
+    let u = digits-split b r (t .1) in
     let va = value a (t .0) in
     let vb = value b (u .0) in
     let ih = decoded r (u .1) (omega arith) in
@@ -74,6 +79,19 @@ decoded (a ∷ b ∷ r) d e =
     bytes : {x : ℕ} (s : List ℕ) → x < 256 → ((i : ℕ) → getD s i 0 < 256) → (i : ℕ) → getD (x ∷ s) i 0 < 256
     bytes s h k zero = h
     bytes s h k (suc i) = k i
+
+-- with answer 5 the reader says which byte is the first that is no digit
+pub bad-said : {text bytes : List ℕ} {r : Read} {now : List ℕ} → ReadOf text bytes r now → number r ≡ 5
+    → NotHex text (badAt r)
+bad-said {text} {bytes} {r} p e =
+    go (allDigits text) (eqb (length text % 2) 0) (leb (length text / 2) (length bytes)) refl refl refl
+  where
+    go : (digits even room : Bool) → allDigits text ≡ digits → eqb (length text % 2) 0 ≡ even
+        → leb (length text / 2) (length bytes) ≡ room → NotHex text (badAt r)
+    go false _ _ ed ee er = rw (p .answer, ed) (bad-is text ed)
+    go true false _ ed ee er = absurd (let z = rw (p .answer, ed, ee) at e in omega arith)
+    go true true false ed ee er = absurd (let z = rw (p .answer, ed, ee, er) at e in omega arith)
+    go true true true ed ee er = absurd (let z = rw (p .answer, ed, ee, er) at e in omega arith)
 
 -- what the writer writes, the reader reads back, into any buffer with room for the bytes
 pub read-back : (bytes old : List ℕ) {r : Read} {now : List ℕ} → ((i : ℕ) → getD bytes i 0 < 256) → length bytes ≤ length old → ReadOf (hexOf bytes) old r now

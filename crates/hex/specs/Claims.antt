@@ -12,8 +12,9 @@ HexDigit c = ((48 ≤ c) × (c ≤ 57)) ⊎ ((97 ≤ c) × (c ≤ 102))
 abbrev pub HexDigits : List ℕ → Type 0
 HexDigits s = (i : ℕ) → i < length s → HexDigit (getD s i 0)
 
--- some byte is none
-pub record NotHex (s : List ℕ) : Type 0 where
-  pub at : ℕ
+-- `at` is the index of the first byte that is none: it lies in the text, the byte there is no digit, and every byte
+-- before it is one
+pub record NotHex (s : List ℕ) (at : ℕ) : Type 0 where
   pub within : at < length s
   pub bad : HexDigit (getD s at 0) → ⊥
+  pub before : (i : ℕ) → i < at → HexDigit (getD s i 0)

@@ -8,7 +8,7 @@ use lib.ListN.{length, take, drop}
 use lib.Dec.{leb, eqb}
 use Rattle.answers.specs.Numbers.{done, notDigit, odd}
 use Rattle.answers.specs.Rows.{Row, _else_, firstFailing}
-use Rattle.hex.specs.Hex.{hexOf, allDigits, unhex}
+use Rattle.hex.specs.Hex.{hexOf, firstBad, allDigits, unhex}
 use Rattle.hex.specs.declared.answer.Read.{Read}
 use Rattle.hex.specs.declared.answer.Read.the-variants as Answer
 use Rattle.hex.specs.declared.answer.Written.{Written}
@@ -21,16 +21,23 @@ noRoom = 255
 -- the number of each answer in the table
 abbrev pub number : Read → ℕ
 number (Answer.Bytes n) = done
-number Answer.NotDigit = notDigit
+number (Answer.NotDigit at) = notDigit
 number Answer.Odd = odd
 number Answer.NoRoom = noRoom
 
 -- how many bytes an answer says were stored
 abbrev pub stored : Read → ℕ
 stored (Answer.Bytes n) = n
-stored Answer.NotDigit = 0
+stored (Answer.NotDigit at) = 0
 stored Answer.Odd = 0
 stored Answer.NoRoom = 0
+
+-- the index that an answer says is the first bad byte's
+abbrev pub badAt : Read → ℕ
+badAt (Answer.Bytes n) = 0
+badAt (Answer.NotDigit at) = at
+badAt Answer.Odd = 0
+badAt Answer.NoRoom = 0
 
 -- how many digits a report says were written
 abbrev pub written : Written → ℕ
@@ -46,7 +53,7 @@ abbrev pub readOf : List ℕ → ℕ → Read
 readOf text room =
     cond (allDigits text)
     (cond (eqb (length text % 2) 0) (cond (leb (length text / 2) room) (Answer.Bytes (length text / 2)) Answer.NoRoom) Answer.Odd)
-    Answer.NotDigit
+    (Answer.NotDigit (firstBad text))
 
 -- the same by rows of the table
 abbrev pub readRows : List ℕ → ℕ → List Row

@@ -3,7 +3,7 @@ ghost use mathlib.Core.Path.{_≡_};
 ghost use mathlib.Core.Bool.{true};
 ghost use Prim.Native.Nat.{_*_, _/_, _≤_, _<_};
 ghost use lib.ListN.{length};
-ghost use Rattle.hex.specs.Hex.{digitOf, hexOf, isDigit, allDigits, valueOf, unhex};
+ghost use Rattle.hex.specs.Hex.{digitOf, hexOf, isDigit, firstBad, allDigits, valueOf, unhex};
 ghost use Rattle.hex.specs.Promise.{front, ReadOf, WrittenOf};
 
 // The answers have a file of their own: a function `read` and an enum `Read` cannot share one.
@@ -45,6 +45,20 @@ fn all_digits(text: &[u8]) -> bool
     all
 }
 
+// The index of the first byte that is no digit, or the length where there is none.
+fn first_bad(text: &[u8]) -> usize
+    ensures { λ r. ⌜ r ≡ firstBad (now (text .entry)) ⌝ }
+{
+    let mut i = 0;
+    while i < text.len() {
+        if !is_digit(text[i]) {
+            return i;
+        }
+        i += 1;
+    }
+    i
+}
+
 // The byte of each pair of digits, at the front of `bytes`.
 fn decode(text: &[u8], bytes: &mut [u8])
     requires { ⌜ allDigits (now text) ≡ true ⌝ }
@@ -80,7 +94,7 @@ pub fn read(text: &[u8], bytes: &mut [u8]) -> Read
     ensures { λ r. ⌜ ReadOf (now (text .entry)) (now (bytes .entry)) r (now (bytes .exit)) ⌝ }
 {
     if !all_digits(text) {
-        return Read::NotDigit;
+        return Read::NotDigit(first_bad(text));
     }
     if text.len() % 2 != 0 {
         return Read::Odd;

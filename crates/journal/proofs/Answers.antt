@@ -1,10 +1,11 @@
 -- What is answered is what its row says: by the tests in their order, the frame's, the text's and the writer's, and
 -- then for what each call promises. The place's rows are the run's.
-use Prim.Native.Nat.{ℕ, zero, suc, _+_, _%_}
+use Prim.Native.Nat.{ℕ, zero, suc, _+_, _%_, _≤_}
 use mathlib.Core.Path.{_≡_, refl, sym, ap, ap₂, _∙_}
 use mathlib.Core.Bool.{Bool, true, false}
 use mathlib.Core.List.{List}
 use native.Mathlib.Omega.{arith}
+use native.Mathlib.Nat.{add-zero}
 use lib.ListN.{length, drop}
 use lib.Seq.{take-at, drop-at}
 use lib.Dec.{leb, eqb}
@@ -13,13 +14,14 @@ use Rattle.answers.specs.Sizes.{fixed, mostData, mostMessage, mostFrame, mostDi
 use Rattle.answers.specs.Rows.{firstFailing}
 use Rattle.morus.specs.Seal.{unseal, accepts}
 use Rattle.morus.proofs.Laws.{unseal-length, whole, accepts-only, accepts-it}
-use Rattle.hex.specs.Hex.{allDigits, unhex}
+use Rattle.hex.specs.Hex.{firstBad, allDigits, unhex}
+use Rattle.hex.specs.Claims.{NotHex}
 use Rattle.hex.proofs.Laws.{decoded}
 use Rattle.hex.proofs.Ranges.{digits-are, bad-is}
-use Rattle.run.specs.Read.{refused, bufferRows}
+use Rattle.run.specs.Read.{refused, moved, bufferRows}
 use Rattle.journal.specs.Frame.{nIn, mIn, nonceIn, adIn, cipherIn, tagIn}
 use Rattle.journal.specs.Reader.{textRows, frameRows, tagRows, lineRows}
-use Rattle.journal.specs.Reader.{opened, openedFrame, given, readFrame, readText, readAt}
+use Rattle.journal.specs.Reader.{opened, openedFrame, given, readFrame, told, readText, readAt}
 use Rattle.journal.specs.Claims.{handed}
 use Rattle.journal.specs.Line.{lineOf, lineLength}
 use Rattle.journal.specs.Writer.{Writing, writerRows, writerNumber, writing, writeInto}
@@ -28,11 +30,12 @@ use Rattle.journal.specs.declared.Verdict as declared
 use Rattle.journal.specs.declared.Answer.{Answer}
 use Rattle.journal.specs.declared.Line.{Line}
 use Rattle.journal.specs.Answers.{Framed, Own, FrameAnswer, TextAnswer, sealedLine, lineSize, WriteAnswer, Placed}
-use Rattle.journal.specs.Answers.{TextOutcome, ReadOutcome, WriteOutcome}
+use Rattle.journal.specs.Answers.{TextOutcome, ReadAnswer, ReadOutcome, WriteOutcome}
 use Rattle.run.proofs.Answers.{answered}
 use Rattle.journal.proofs.Frames.{Sound, sound}
-use Rattle.journal.proofs.Rows.{text-blanks}
+use Rattle.journal.proofs.Rows.{text-blanks, text-passes}
 use Rattle.journal.proofs.Sizes.{line-size}
+use Rattle.journal.proofs.Points.{text-points, points, within}
 use Rattle.journal.proofs.Refused.{not-opened, not-written}
 
 -- ---- a frame
@@ -56,7 +59,7 @@ module _ (key : List ℕ) (size : ℕ) (f : List ℕ) where
 
   -- what is handed out of an opened frame, by its parts
   handed-is : (S : Sound f) → Own (framed S)
-      → handed key (nonceIn f) (adIn f) (framed S .message) size
+      → handed key (nonceIn f) (adIn f) (framed S .message) 0 size
       ≡ opened (nIn f) (mIn f) size (openedFrame key f)
   unfolding handed opened openedFrame
   handed-is S o = rw (← o, message-length S, S .adLength)
@@ -94,7 +97,7 @@ module _ (key : List ℕ) (size : ℕ) (f : List ℕ) where
           let n = leb-true (nIn f) mostData e8 in
           let m = leb-true (mIn f) mostMessage e10 in
           let o = accepts-only key (nonceIn f) (adIn f) (cipherIn f) (tagIn f) e1 in
-          let a : FrameAnswer key size f (handed key (nonceIn f) (adIn f) (framed S .message) size) =
+          let a : FrameAnswer key size f (handed key (nonceIn f) (adIn f) (framed S .message) 0 size) =
           FrameAnswer.opened (framed S) (omega (arith, S .adLength)) (omega (arith, message-length S)) o in
           rw (e7, e8, e9, e10, e1) (rw (handed-is S o) at a)
 
@@ -102,7 +105,7 @@ module _ (key : List ℕ) (size : ℕ) (f : List ℕ) where
 
 module _ (key : List ℕ) (size : ℕ) (text : List ℕ) where
   pub text-answered : TextAnswer key size text (readText key text size)
-  unfolding readText readFrame given lineRows bufferRows textRows firstFailing refused
+  unfolding readText told moved given lineRows bufferRows textRows firstFailing refused
   text-answered =
       go (leb mostFrame size) (leb (length text) mostDigits) (allDigits text) (eqb (length text % 2) 0)
       refl refl refl refl (frame-answered key size (unhex text))
@@ -114,14 +117,29 @@ module _ (key : List ℕ) (size : ℕ) (text : List ℕ) where
       go true false b5 b6 e13 e4 e5 e6 a =
           rw (e13, e4) (TextAnswer.too-long (leb-true _ _ e13) (leb-false _ _ e4))
       go true true false b6 e13 e4 e5 e6 a =
-          rw (e13, e4, e5) (TextAnswer.not-digit (leb-true _ _ e13) (leb-true _ _ e4) (bad-is text e5))
+          let b : NotHex text (firstBad text + 0) = rw add-zero (bad-is text e5) in
+          rw (e13, e4, e5) (TextAnswer.not-digit (leb-true _ _ e13) (leb-true _ _ e4) b)
       go true true true false e13 e4 e5 e6 a =
           let o = eqb-false (length text % 2) 0 e6 in
           rw (e13, e4, e5, e6)
           (TextAnswer.odd (leb-true _ _ e13) (leb-true _ _ e4) (digits-are text e5) (omega arith))
       go true true true true e13 e4 e5 e6 a =
-          let d = decoded text e5 (eqb-true (length text % 2) 0 e6) in
-          rw (e13, e4, e5, e6) (TextAnswer.frame (leb-true _ _ e13) (leb-true _ _ e4) (d .bytes) (sym (d .back)) a)
+          let big = leb-true mostFrame size e13 in
+          let short = leb-true (length text) mostDigits e4 in
+          let even = eqb-true (length text % 2) 0 e6 in
+          let d = decoded text e5 even in
+          rw (text-passes key text size big (record { short = short; digits = e5; even = even }))
+          (TextAnswer.frame big short (d .bytes) (sym (d .back)) a)
+
+-- ---- a place
+
+module _ (key j : List ℕ) (place size : ℕ) where
+  pub read-answered : ReadAnswer key j place size (readAt key j place size)
+  read-answered = answered {Says = TextAnswer key size} (readText key) j place size (text-answered key size)
+
+  -- an answer is about no place further than the one given and the journal's end
+  pub read-within : (most : ℕ) → place ≤ most → length j ≤ most → readAt key j place size .verdict .at ≤ most
+  read-within = within read-answered
 
 -- ---- what the calls promise
 
@@ -130,8 +148,10 @@ module _ {text key frame frame' : List ℕ} {r : declared.Verdict} where
   text-outcome h =
       let size = length frame in
       let is : readText key text size ≡ verdictOf r frame' = ap₂ verdictOf (sym (h .said)) (sym (h .buffer)) in
+      let a : TextAnswer key size text (verdictOf r frame') = rw is at (text-answered key size text) in
       record {
-        answer = rw is at (text-answered key size text);
+        answer = a;
+        points = text-points a;
         refused = λ e. (rw is at (text-blanks key text size)) .blank e;
       }
 
@@ -140,10 +160,9 @@ module _ {j key frame frame' : List ℕ} {place : ℕ} {r : Answer} where
   read-outcome h =
       let size = length frame in
       let is : readAt key j place size ≡ readingOf r frame' = ap₂ readingOf (sym (h .answer)) (sym (h .buffer)) in
-      record {
-        answer = rw is at (answered {Says = TextAnswer key size} (readText key) j place size (text-answered key size));
-        refused = not-opened h;
-      }
+      let a : ReadAnswer key j place size (readingOf r frame') =
+      rw is at (read-answered key j place size) in
+      record { answer = a; points = points a; refused = not-opened h }
 
 -- ---- writing
 

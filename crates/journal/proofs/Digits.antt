@@ -7,11 +7,12 @@ use lib.ListN.{length, take, drop}
 use lib.Seq.{take-at, take-all}
 use borrow.Author.Tests.{le-leb, eq-eqb}
 use Rattle.answers.specs.Sizes.{mostFrame, mostDigits}
-use Rattle.hex.specs.Hex.{unhex}
+use Rattle.hex.specs.Hex.{firstBad, unhex}
 use Rattle.hex.specs.Promise.{noRoom, number, stored, readOf, ReadOf}
 use Rattle.hex.specs.declared.answer.Read.{Read}
 use Rattle.hex.specs.declared.answer.Read.the-variants as Answer
-use Rattle.hex.proofs.Laws.{decoded}
+use Rattle.hex.proofs.Laws.{decoded, bad-said}
+use Rattle.hex.proofs.Ranges.{bad-only}
 use Rattle.answers.specs.Rows.{firstFailing}
 use Rattle.journal.specs.Reader.{textRows}
 use Rattle.answers.proofs.Rows.{first-not}
@@ -34,6 +35,9 @@ module _ {text bytes bytes' : List ℕ} {r : Read} (h : ReadOf text bytes r byte
   unfolding textRows firstFailing
   text-number =
       h .numbered ∙ rw (le-leb (length text) mostDigits short, le-leb (length text / 2) (length bytes) (omega arith))
+
+  pub bad-at : (at : ℕ) → r ≡ Answer.NotDigit at → at ≡ firstBad text
+  bad-at at e = bad-only text at (rw e at (bad-said h (ap number e)))
 
   pub read-digits : (count : ℕ) → r ≡ Answer.Bytes count → Digits text bytes' count
   read-digits count e =

@@ -16,17 +16,17 @@ use Rattle.run.specs.Line.{lineAt}
 use Rattle.run.specs.Read.{Reading, refused}
 use Rattle.run.proofs.Rows.{too-small}
 use Rattle.journal.specs.Line.{Fits, Made}
-use Rattle.journal.specs.Reader.{opened, readText, readAt}
+use Rattle.journal.specs.Reader.{readText, readAt}
 use Rattle.journal.specs.Claims.{handed}
 use Rattle.journal.specs.Promise.{LineRead}
 use Rattle.journal.proofs.Frames.{frame-length}
 use Rattle.journal.proofs.Opened.{hands-out, opened-exactly}
 use Rattle.journal.proofs.Refused.{not-opened}
 
-handed-length : (key nonce ad message : List ℕ) (size : ℕ) → Fits nonce ad message → mostFrame ≤ size
-    → length (handed key nonce ad message size .buffer) ≡ size
-unfolding handed opened
-handed-length key nonce ad message size F big =
+handed-length : (key nonce ad message : List ℕ) (at size : ℕ) → Fits nonce ad message → mostFrame ≤ size
+    → length (handed key nonce ad message at size .buffer) ≡ size
+unfolding handed
+handed-length key nonce ad message at size F big =
     let t = sealTag key nonce ad message in
     let front = frameWith nonce ad message t in
     length-append front (replicate (size - length front) fill)
@@ -57,5 +57,5 @@ keeps-length {j} {key} {frame} {frame'} {place} {r} h = go (r .number) refl (ltb
         let big = ltb-false (length frame) mostFrame t in
         let M : Made key (lineAt j place) = opened-exactly key (length frame) big j place .0 (sym number ∙ e) in
         ap length (h .buffer ∙ ap (λ (x : Reading). x .verdict .buffer) (hands-out key (length frame) big j place M))
-        ∙ handed-length key (M .nonce) (M .ad) (M .message) (length frame) (M .fits) big
+        ∙ handed-length key (M .nonce) (M .ad) (M .message) place (length frame) (M .fits) big
     go (suc k) e b t = ap length (not-opened h (omega arith) .fill) ∙ length-replicate (length frame) 170

@@ -7,10 +7,11 @@ pub mod SealFrame
 pub mod WriteLine
 pub mod Made
 pub mod Opened
-pub mod Promised
 pub mod Calls
 pub mod Refused
+pub mod Points
 pub mod Answers
+pub mod Promised
 pub mod RoundTrip
 pub mod Kept
 pub mod Determined

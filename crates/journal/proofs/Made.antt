@@ -1,6 +1,6 @@
 -- Demand 3, the second half: a line is opened exactly if the sealing made it, and what went in is handed out.
 use Prim.Native.Nat.{ℕ, _+_, _≤_}
-use mathlib.Core.Path.{_≡_, sym, ap, _∙_}
+use mathlib.Core.Path.{_≡_, refl, sym, ap, _∙_}
 use mathlib.Core.Bool.{true}
 use mathlib.Core.List.{List, [], _∷_, _++_}
 use native.Mathlib.Omega.{arith}
@@ -18,6 +18,7 @@ use Rattle.run.specs.Line.{newline, textOf}
 use Rattle.run.proofs.Newline.{Plain, newlineAt-plain, plain-of}
 use Rattle.journal.specs.Line.{frameOf, lineOf, Fits, Made}
 use Rattle.answers.specs.Rows.{firstFailing}
+use Rattle.run.specs.Read.{moved}
 use Rattle.journal.specs.Reader.{tagRows, opened, openedFrame, given, readText}
 use Rattle.journal.specs.Claims.{handed}
 use Rattle.journal.proofs.Frames.{Parts, parts, sound}
@@ -52,6 +53,12 @@ module _ (key : List ℕ) where
         are = parts nonce ad c t (F .nonce16) (tag-length key nonce ad message);
       }
 
+  -- what is handed out, d bytes further on
+  pub handed-moved : (nonce ad message : List ℕ) (size d at : ℕ)
+      → moved d (handed key nonce ad message at size) ≡ handed key nonce ad message (d + at) size
+  unfolding moved handed
+  handed-moved nonce ad message size d at = refl
+
   -- a line that the sealing made is opened
   module _ (nonce ad message : List ℕ) (F : Fits nonce ad message) where
     abbrev f : List ℕ
@@ -79,14 +86,14 @@ module _ (key : List ℕ) where
         let m256 = F .message256 in
         record { least = omega arith; few = omega arith; within = omega arith; most = omega arith }
 
-    tag-passes : (size : ℕ) → given key f size (firstFailing (tagRows key f)) ≡ handed key nonce ad message size
+    tag-passes : (size : ℕ) → given key f size (firstFailing (tagRows key f)) ≡ handed key nonce ad message 0 size
     unfolding firstFailing tagRows given opened openedFrame handed
     tag-passes size =
         let P = S .are in
         let a : accepts key (nonceIn f) (adIn f) (cipherIn f) (tagIn f) ≡ true = rw (P .tagIs, P .bodyIs, P .adIs, P .nonceIs) (own key nonce ad message) in
         rw (a, P .tagIs, P .bodyIs, P .adIs, P .nonceIs, P .mIs, P .nIs, back key nonce ad message, seal-length key nonce ad message)
 
-    pub line-opens : (size : ℕ) → mostFrame ≤ size → readText key (hexOf f) size ≡ handed key nonce ad message size
+    pub line-opens : (size : ℕ) → mostFrame ≤ size → readText key (hexOf f) size ≡ handed key nonce ad message 0 size
     line-opens size big =
         text-passes key (hexOf f) size big text-good
         ∙ rw (coded f (S .bytes) .back) (frame-passes key f size frame-good ∙ tag-passes size)

@@ -97,12 +97,14 @@ cut b count least most =
 
 -- what is answered by the cipher's number r, where it left y
 pub record Settled (b : List ℕ) (count : ℕ) (key : List ℕ) (r : ℕ) (y : List ℕ) : Type 0 where
-  pub refuses : {a : Verdict} {frame' : List ℕ} → (r ≡ 0 → ⊥) → Gives (Read.refused r (length (put b count y))) a frame'
+  pub refuses : {a : Verdict} {frame' : List ℕ} → (r ≡ 0 → ⊥)
+      → Gives (Read.refused r 0 (length (put b count y))) a frame'
       → Gives (given key (take count b) (length b) (firstFailing (tagRows key (take count b)))) a frame'
   pub opens : {frame' : List ℕ} → r ≡ 0
       → frame' ≡ take count (put b count y) ++ replicate (length (put b count y) - count) fill
       → Gives (given key (take count b) (length b) (firstFailing (tagRows key (take count b))))
-      (record { number = done; n = getD b nonceSize 0; m = count - tagSize - (dataAt + getD b nonceSize 0) }) frame'
+      (record { number = done; n = getD b nonceSize 0; m = count - tagSize - (dataAt + getD b nonceSize 0); at = 0 })
+      frame'
 
 module _ (b : List ℕ) (count : ℕ) (key : List ℕ)
     (small : count ≤ mostFrame) (most : mostFrame ≤ length b) (least : fixed + getD b nonceSize 0 ≤ count)
@@ -141,12 +143,12 @@ module _ (b : List ℕ) (count : ℕ) (key : List ℕ)
   same-length : length (put b count y) ≡ length b
   same-length = same-len-mid (dataAt + getD b nonceSize 0) (count - tagSize - (dataAt + getD b nonceSize 0)) b y kept
 
-  tag-fails : (r ≡ 0 → ⊥) → given key f (length b) (firstFailing (tagRows key f)) ≡ Read.refused r (length b)
+  tag-fails : (r ≡ 0 → ⊥) → given key f (length b) (firstFailing (tagRows key f)) ≡ Read.refused r 0 (length b)
   unfolding given tagRows firstFailing
   tag-fails h = go (accepts key (nonceIn f) (adIn f) (cipherIn f) (tagIn f)) refl
     where
       go : (a : Bool) → accepts key (nonceIn f) (adIn f) (cipherIn f) (tagIn f) ≡ a
-          → given key f (length b) (cond a 0 1) ≡ Read.refused r (length b)
+          → given key f (length b) (cond a 0 1) ≡ Read.refused r 0 (length b)
       go true e = absurd (h (opened (nonceIn f) key (tagIn f) settled few-data few-cipher e .0))
       go false e = rw (refused (nonceIn f) key (tagIn f) settled few-data few-cipher e .0)
 

@@ -3,6 +3,7 @@ use Prim.Native.Nat.{ℕ, suc, _+_, _≤_}
 use mathlib.Core.Path.{_≡_, ap, _∙_}
 use mathlib.Core.Logic.{_↔_}
 use mathlib.Core.List.{List}
+use native.Mathlib.Nat.{add-zero}
 use lib.ListN.{length}
 use Rattle.answers.specs.Sizes.{mostFrame}
 use Rattle.hex.specs.Hex.{hexOf}
@@ -14,20 +15,24 @@ use Rattle.run.specs.Claims.{Every}
 use Rattle.run.proofs.Run.{every-map, reads}
 use Rattle.run.proofs.Lines as Lines
 use Rattle.journal.specs.Line.{frameOf, Made}
-use Rattle.journal.specs.Reader.{opened, readText, readAt, runFrom, run}
+use Rattle.journal.specs.Reader.{readText, readAt, runFrom, run}
 use Rattle.journal.specs.Claims.{handed, Right}
-use Rattle.journal.proofs.Made.{digits-plain, is-sealed, line-opens, opened-made}
+use Rattle.journal.proofs.Made.{digits-plain, is-sealed, handed-moved, line-opens, opened-made}
 
 module _ (key : List ℕ) (size : ℕ) (big : mostFrame ≤ size) (j : List ℕ) where
   module _ (p : ℕ) where
     -- what is handed out
     pub hands-out : (M : Made key (lineAt j p))
-        → readAt key j p size ≡ reading (handed key (M .nonce) (M .ad) (M .message) size) (p + length (lineAt j p))
+        → readAt key j p size ≡ reading (handed key (M .nonce) (M .ad) (M .message) p size) (p + length (lineAt j p))
     hands-out M =
         let f = frameOf key (M .nonce) (M .ad) (M .message) in
         Lines.at-text (readText key) j p size big (hexOf f)
         (digits-plain f (is-sealed key (M .nonce) (M .ad) (M .message) (M .fits) .bytes)) (M .is)
-        ∙ rw (line-opens key (M .nonce) (M .ad) (M .message) (M .fits) size big)
+        ∙ rw (
+          line-opens key (M .nonce) (M .ad) (M .message) (M .fits) size big,
+          handed-moved key (M .nonce) (M .ad) (M .message) size p 0,
+          add-zero,
+        )
 
     opened-found : readAt key j p size .verdict .number ≡ 0 → Made key (lineAt j p)
     opened-found e =
@@ -35,7 +40,7 @@ module _ (key : List ℕ) (size : ℕ) (big : mostFrame ≤ size) (j : List ℕ)
         rw (o .line) (opened-made key (o .text) size (o .opens))
 
     pub opened-exactly : (readAt key j p size .verdict .number ≡ 0) ↔ Made key (lineAt j p)
-    unfolding handed opened
+    unfolding handed
     opened-exactly = (opened-found, λ M. ap (λ (x : Reading). x .verdict .number) (hands-out M))
 
   -- every answer of the run from the start

@@ -23,11 +23,11 @@ use Rattle.run.proofs.Run.{at-line, one-line}
 use Rattle.run.proofs.Damage.{isolated, shifts}
 use Rattle.journal.specs.Line.{frameOf, lineOf, Fits}
 use Rattle.journal.specs.Writer.{writerNumber}
-use Rattle.journal.specs.Reader.{opened, readText, readAt, run}
+use Rattle.journal.specs.Reader.{readText, readAt, run}
 use Rattle.journal.specs.Claims.{handed}
 use Rattle.journal.specs.Promise.{answerOf, LineWritten, LineRead}
 use Rattle.journal.proofs.Frames.{frame-length}
-use Rattle.journal.proofs.Made.{digits-plain, is-sealed, line-opens}
+use Rattle.journal.proofs.Made.{digits-plain, is-sealed, handed-moved, line-opens}
 use Rattle.journal.proofs.Sizes.{line-size}
 use Rattle.journal.proofs.WriteLine.{writer-pass}
 use Rattle.journal.proofs.Answers.{number-is, size-of, write-outcome}
@@ -68,7 +68,7 @@ module _ {key nonce ad message line line' : List ℕ} {r : Line}
     -- from any place at which it stands
     pub read-anywhere : (P T : List ℕ)
         → readAt key (P ++ (take (r .length) line' ++ T)) (length P) size
-        ≡ reading (handed key nonce ad message size) (length P + r .length)
+        ≡ reading (handed key nonce ad message (length P) size) (length P + r .length)
     unfolding shift
     read-anywhere P T =
         ap (λ (p : ℕ). readAt key (P ++ (take (r .length) line' ++ T)) p size) (sym (add-zero (length P)))
@@ -78,12 +78,15 @@ module _ {key nonce ad message line line' : List ℕ} {r : Line}
           at-line (readText key) size big (hexOf (frameOf key nonce ad message)) T plain,
           line-opens key nonce ad message fits size big,
           digits-length,
+          handed-moved key nonce ad message size 0 0,
+          handed-moved key nonce ad message size (length P) 0,
+          add-zero,
         )
 
     -- in the run, at the start of a journal
     pub run-first : (T : List ℕ)
         → run key (take (r .length) line' ++ T) size
-        ≡ entry 0 (reading (handed key nonce ad message size) (r .length))
+        ≡ entry 0 (reading (handed key nonce ad message 0 size) (r .length))
         ∷ map (shiftEntry (r .length)) (run key T size)
     run-first T =
         rw (
@@ -91,25 +94,31 @@ module _ {key nonce ad message line line' : List ℕ} {r : Line}
           one-line (readText key) (not-end key) size big (hexOf (frameOf key nonce ad message)) T plain,
           line-opens key nonce ad message fits size big,
           digits-length,
+          handed-moved key nonce ad message size 0 0,
         )
 
     -- in the run, after any newline
     pub run-after : (A T : List ℕ)
         → answersFrom (length A + 1) (run key (A ++ newline ∷ (take (r .length) line' ++ T)) size)
-        ≡ entry (length A + 1) (reading (handed key nonce ad message size) (length A + 1 + r .length))
+        ≡ entry (length A + 1) (reading (handed key nonce ad message (length A + 1) size) (length A + 1 + r .length))
         ∷ map (shiftEntry (length A + 1 + r .length)) (run key T size)
     unfolding shiftEntry shift
     run-after A T =
         isolated (readText key) (not-end key) size big A (take (r .length) line' ++ T)
-        ∙ rw (run-first T, add-zero, shifts (length A + 1) (r .length) (length A + 1 + r .length) (run key T size) refl)
+        ∙ rw (
+          run-first T,
+          handed-moved key nonce ad message size (length A + 1) 0,
+          add-zero,
+          shifts (length A + 1) (r .length) (length A + 1 + r .length) (run key T size) refl,
+        )
 
   -- by what the reader promises: the same nonce, data and message, and 170 behind them
   pub handed-out : {frame frame' : List ℕ} {a : Answer} (P T : List ℕ) → mostFrame ≤ length frame
       → LineRead (P ++ (take (r .length) line' ++ T)) (length P) key frame a frame'
-      → (a ≡ record { number = 0; next = length P + r .length; n = length ad; m = length message })
+      → (a ≡ record { number = 0; next = length P + r .length; n = length ad; m = length message; at = length P })
       × (frame' ≡ frameWith nonce ad message (sealTag key nonce ad message)
       ++ replicate (length frame - (fixed + length ad + length message)) 170)
-  unfolding handed opened
+  unfolding handed
   handed-out {frame} P T big h =
       let t = sealTag key nonce ad message in
       let k : length (frameWith nonce ad message t) ≡ fixed + length ad + length message =

@@ -7,18 +7,20 @@ use mathlib.Core.List.{List, _++_}
 use native.Mathlib.Omega.{arith}
 use lib.ListN.{length, getD, take}
 use lib.Seq.{getD-take, length-take-le}
-use borrow.Author.Tests.{le-leb, lt-leb, leb-true, leb-false, eqb-true, eq-eqb}
-use Rattle.answers.specs.Numbers.{lineTooLong, bufferTooSmall, end, numbersBelow}
+use native.Mathlib.Nat.{add-zero, zero-add}
+use borrow.Author.Tests.{le-leb, lt-leb, leb-true, leb-false, eqb-true, eq-eqb, ne-eqb}
+use Rattle.answers.specs.Numbers.{lineTooLong, notDigit, bufferTooSmall, end, numbersBelow}
 use Rattle.answers.specs.Sizes.{nonceSize, fixed, mostData, mostMessage, mostFrame, mostDigits}
 use Rattle.answers.specs.Rows.{Row, firstFailing}
 use Rattle.answers.proofs.Rows.{must, AllPass, first-lt, first-not, zero-pass, pass-first, fail-first, pass-both}
 use Rattle.hex.specs.Hex.{allDigits, unhex}
 use Rattle.morus.specs.Seal.{accepts}
-use Rattle.run.specs.Read.{Verdict, refused, bufferRows}
+use Rattle.run.specs.Read.{Verdict, refused, moved, bufferRows}
 use Rattle.run.specs.Claims.{NotEnd, Blanks}
 use Rattle.run.proofs.Lines.{refused-blanks, said}
 use Rattle.journal.specs.Frame.{nIn, mIn, nonceIn, adIn, cipherIn, tagIn}
-use Rattle.journal.specs.Reader.{textRows, frameRows, tagRows, lineRows, opened, given, readFrame, readText, readAt}
+use Rattle.journal.specs.Reader.{textRows, frameRows, tagRows, lineRows}
+use Rattle.journal.specs.Reader.{opened, given, readFrame, placeOf, told, readText, readAt}
 
 -- ---- what the rows say where they pass
 
@@ -86,7 +88,7 @@ line-pass key text size e =
 
 -- the rows before the others decide
 given-first : (key f : List ℕ) (size : ℕ) (a b : List Row) (number : ℕ) → number ≡ firstFailing a → (number ≡ 0 → ⊥)
-    → given key f size (firstFailing (a ++ b)) ≡ refused number size
+    → given key f size (firstFailing (a ++ b)) ≡ refused number 0 size
 unfolding given
 given-first key f size a b zero e h = absurd (h refl)
 given-first key f size a b (suc k) e h = rw (fail-first a b (λ z. h (e ∙ z)), ← e)
@@ -99,43 +101,57 @@ given-number key f size (suc k) = refl
 given-blanks : (key f : List ℕ) (size k : ℕ) → Blanks size (given key f size k)
 unfolding given opened
 given-blanks key f size zero = record { blank = λ h. absurd (h refl) }
-given-blanks key f size (suc k) = refused-blanks (suc k) size
+given-blanks key f size (suc k) = refused-blanks (suc k) 0 size
+
+-- the same of a text, whose place goes by the number
+told-first : (key text : List ℕ) (size : ℕ) (a b : List Row) (number : ℕ) → number ≡ firstFailing a → (number ≡ 0 → ⊥)
+    → told key text size (firstFailing (a ++ b)) ≡ refused number (placeOf number text) size
+unfolding told given moved refused
+told-first key text size a b zero e h = absurd (h refl)
+told-first key text size a b (suc k) e h = rw (fail-first a b (λ z. h (e ∙ z)), ← e, add-zero)
+
+told-given : (key text : List ℕ) (size number : ℕ) → (number ≡ notDigit → ⊥)
+    → told key text size number ≡ given key (unhex text) size number
+unfolding told moved
+told-given key text size number h = rw (ne-eqb number notDigit h, zero-add)
 
 -- ---- the text
 
 module _ (key text : List ℕ) (size : ℕ) where
   pub text-number : readText key text size .number ≡ firstFailing (lineRows key text size)
-  unfolding readText
+  unfolding readText told moved
   text-number = given-number key (unhex text) size (firstFailing (lineRows key text size))
 
   pub text-blanks : Blanks size (readText key text size)
-  unfolding readText
-  text-blanks = given-blanks key (unhex text) size (firstFailing (lineRows key text size))
+  unfolding readText told moved
+  text-blanks = record { blank = given-blanks key (unhex text) size (firstFailing (lineRows key text size)) .blank }
 
-  pub no-room : size < mostFrame → readText key text size ≡ refused bufferTooSmall size
-  unfolding readText lineRows bufferRows firstFailing given
+  pub no-room : size < mostFrame → readText key text size ≡ refused bufferTooSmall 0 size
+  unfolding readText told moved lineRows bufferRows firstFailing given refused
   no-room h = rw (lt-leb mostFrame size h)
 
   module _ (big : mostFrame ≤ size) where
     pub text-fails : (number : ℕ) → number ≡ firstFailing (textRows text) → (number ≡ 0 → ⊥)
-        → readText key text size ≡ refused number size
+        → readText key text size ≡ refused number (placeOf number text) size
     unfolding readText lineRows bufferRows
     text-fails number e h =
         rw (pass-first (bufferRows size) _ (le-leb mostFrame size big, tt))
-        (given-first key (unhex text) size (textRows text)
+        (told-first key text size (textRows text)
         (frameRows (unhex text) ++ tagRows key (unhex text)) number e h)
 
-    pub too-long : mostDigits < length text → readText key text size ≡ refused lineTooLong size
+    pub too-long : mostDigits < length text → readText key text size ≡ refused lineTooLong 0 size
     unfolding textRows firstFailing
     too-long h = text-fails lineTooLong (rw (lt-leb (length text) mostDigits h)) (omega arith)
 
     pub text-passes : GoodText text → readText key text size ≡ readFrame key (unhex text) size
-    unfolding readText readFrame lineRows bufferRows
+    unfolding readText readFrame lineRows bufferRows frameRows tagRows
     text-passes g =
+        let rest = frameRows (unhex text) ++ tagRows key (unhex text) in
         rw (
           pass-first (bufferRows size) _ (le-leb mostFrame size big, tt),
-          pass-first (textRows text) (frameRows (unhex text) ++ tagRows key (unhex text)) (text-good text g),
+          pass-first (textRows text) rest (text-good text g),
         )
+        (told-given key text size (firstFailing rest) (first-not notDigit rest (omega arith) tt))
 
 -- the end answer is not one of the reader's
 pub not-end : (key : List ℕ) → NotEnd (readText key)
@@ -146,7 +162,7 @@ not-end key text size = rw (text-number key text size) (first-not end (lineRows 
 
 module _ (key f : List ℕ) (size : ℕ) where
   pub frame-fails : (number : ℕ) → number ≡ firstFailing (frameRows f) → (number ≡ 0 → ⊥)
-      → readFrame key f size ≡ refused number size
+      → readFrame key f size ≡ refused number 0 size
   unfolding readFrame
   frame-fails = given-first key f size (frameRows f) (tagRows key f)
 
@@ -172,21 +188,24 @@ pub record Small (v : Verdict) : Type 0 where
   pub n : v .n ≤ mostData
   pub m : v .m ≤ mostMessage
 
-refused-small : (k size : ℕ) → k < numbersBelow → Small (refused k size)
+refused-small : (k at size : ℕ) → k < numbersBelow → Small (refused k at size)
 unfolding refused
-refused-small k size h = record { number = h; n = omega arith; m = omega arith }
+refused-small k at size h = record { number = h; n = omega arith; m = omega arith }
 
 given-small : (key f : List ℕ) (size k : ℕ) → k < numbersBelow → (k ≡ 0 → GoodFrame f) → Small (given key f size k)
 unfolding given opened
 given-small key f size zero h g = record { number = omega arith; n = g refl .few; m = g refl .most }
-given-small key f size (suc k) h g = refused-small (suc k) size h
+given-small key f size (suc k) h g = refused-small (suc k) 0 size h
 
-text-small : (key text : List ℕ) (size : ℕ) → Small (readText key text size)
-unfolding readText lineRows bufferRows textRows frameRows tagRows
-text-small key text size =
+text-small : (key text : List ℕ) (place size : ℕ) → Small (moved place (readText key text size))
+unfolding readText told moved lineRows bufferRows textRows frameRows tagRows
+text-small key text place size =
+    let s =
     given-small key (unhex text) size (firstFailing (lineRows key text size))
-    (first-lt numbersBelow (lineRows key text size) (omega arith) tt) (λ z. line-pass key text size z .frame)
+    (first-lt numbersBelow (lineRows key text size) (omega arith) tt) (λ z. line-pass key text size z .frame) in
+    record { number = s .number; n = s .n; m = s .m }
 
 pub read-small : (key j : List ℕ) (place size : ℕ) → Small (readAt key j place size .verdict)
 read-small key j place size =
-    said (readText key) j place size Small (λ k l. refused-small k size l) (λ t. text-small key t size)
+    said (readText key) j place size Small (λ k l. refused-small k place size l)
+    (λ t. text-small key t place size)

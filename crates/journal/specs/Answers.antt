@@ -14,7 +14,7 @@ use Rattle.run.specs.Answers.{blank, AnsweredAt}
 use Rattle.journal.specs.declared.Verdict as declared
 use Rattle.journal.specs.declared.Answer.{Answer}
 use Rattle.journal.specs.declared.Line.{Line}
-use Rattle.journal.specs.Claims.{handed, Untouched}
+use Rattle.journal.specs.Claims.{TextPoints, Points, handed, Untouched}
 use Rattle.journal.specs.Promise.{verdictOf, readingOf}
 
 -- ---- a frame, with a frame buffer of `size` bytes
@@ -32,29 +32,30 @@ abbrev pub Own : {key f : List ℕ} → Framed key f → Type 0
 Own {key} F = F .tag ≡ sealTag key (F .nonce) (F .ad) (F .message)
 
 pub data FrameAnswer (key : List ℕ) (size : ℕ) (f : List ℕ) : Verdict → Type 0 where
-  short : length f < 33 → FrameAnswer key size f (blank 7 size)
-  data-long : 33 ≤ length f → 64 < getD f 16 0 → FrameAnswer key size f (blank 8 size)
-  data-past : 33 ≤ length f → getD f 16 0 ≤ 64 → length f < 33 + getD f 16 0 → FrameAnswer key size f (blank 9 size)
+  short : length f < 33 → FrameAnswer key size f (blank 7 0 size)
+  data-long : 33 ≤ length f → 64 < getD f 16 0 → FrameAnswer key size f (blank 8 0 size)
+  data-past : 33 ≤ length f → getD f 16 0 ≤ 64 → length f < 33 + getD f 16 0 → FrameAnswer key size f (blank 9 0 size)
   message-long : (F : Framed key f) → length (F .ad) ≤ 64 → 256 < length (F .message)
-      → FrameAnswer key size f (blank 10 size)
+      → FrameAnswer key size f (blank 10 0 size)
   tag-differs : (F : Framed key f) → length (F .ad) ≤ 64 → length (F .message) ≤ 256 → (Own F → ⊥)
-      → FrameAnswer key size f (blank 1 size)
+      → FrameAnswer key size f (blank 1 0 size)
   opened : (F : Framed key f) → length (F .ad) ≤ 64 → length (F .message) ≤ 256 → Own F
-      → FrameAnswer key size f (handed key (F .nonce) (F .ad) (F .message) size)
+      → FrameAnswer key size f (handed key (F .nonce) (F .ad) (F .message) 0 size)
 
 -- ---- a line's text
 
 pub data TextAnswer (key : List ℕ) (size : ℕ) (text : List ℕ) : Verdict → Type 0 where
-  too-small : size < 353 → TextAnswer key size text (blank 13 size)
-  too-long : 353 ≤ size → 706 < length text → TextAnswer key size text (blank 4 size)
-  not-digit : 353 ≤ size → length text ≤ 706 → NotHex text → TextAnswer key size text (blank 5 size)
+  too-small : size < 353 → TextAnswer key size text (blank 13 0 size)
+  too-long : 353 ≤ size → 706 < length text → TextAnswer key size text (blank 4 0 size)
+  not-digit : {at : ℕ} → 353 ≤ size → length text ≤ 706 → NotHex text at → TextAnswer key size text (blank 5 at size)
   odd : 353 ≤ size → length text ≤ 706 → HexDigits text → length text % 2 ≡ 1
-      → TextAnswer key size text (blank 6 size)
+      → TextAnswer key size text (blank 6 0 size)
   frame : {f : List ℕ} {v : Verdict} → 353 ≤ size → length text ≤ 706 → Bytes f → text ≡ hexOf f
       → FrameAnswer key size f v → TextAnswer key size text v
 
 pub record TextOutcome (text key frame : List ℕ) (r : declared.Verdict) (frame' : List ℕ) : Type 0 where
   pub answer : TextAnswer key (length frame) text (verdictOf r frame')
+  pub points : TextPoints text (r .number) (r .at)
   pub refused : (r .number ≡ 0 → ⊥) → Blank (length frame) (r .n) (r .m) frame'
 
 -- ---- a place of the journal
@@ -64,6 +65,7 @@ ReadAnswer key j place size = AnsweredAt (TextAnswer key size) j place size
 
 pub record ReadOutcome (j : List ℕ) (place : ℕ) (key frame : List ℕ) (r : Answer) (frame' : List ℕ) : Type 0 where
   pub answer : ReadAnswer key j place (length frame) (readingOf r frame')
+  pub points : Points j place (r .number) (r .next) (r .at)
   pub refused : (r .number ≡ 0 → ⊥) → Blank (length frame) (r .n) (r .m) frame'
 
 -- ---- writing into a line buffer

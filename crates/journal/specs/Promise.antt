@@ -1,5 +1,5 @@
 -- What the entry points promise.
-use Prim.Native.Nat.{ℕ}
+use Prim.Native.Nat.{ℕ, _+_}
 use mathlib.Core.Path.{_≡_}
 use mathlib.Core.List.{List}
 use lib.ListN.{length}
@@ -17,20 +17,25 @@ pub record LineWritten (key nonce ad message line : List ℕ) (r : Line) (line' 
 -- ---- reading: what is handed back beside the buffer
 
 abbrev pub saidOf : Verdict → declared.Verdict
-saidOf v = record { number = v .number; n = v .n; m = v .m }
+saidOf v = record { number = v .number; n = v .n; m = v .m; at = v .at }
 
 abbrev pub placed : declared.Verdict → (next : ℕ) → Answer
-placed v next = record { number = v .number; next = next; n = v .n; m = v .m }
+placed v next = record { number = v .number; next = next; n = v .n; m = v .m; at = v .at }
+
+-- d bytes further on
+abbrev pub movedBy : (d : ℕ) → declared.Verdict → declared.Verdict
+movedBy d v = record { number = v .number; n = v .n; m = v .m; at = d + v .at }
 
 abbrev pub answerOf : Reading → Answer
 answerOf x = placed (saidOf (x .verdict)) (x .next)
 
 -- the other way: what a call gave and left in the buffer, as a verdict and as a reading
 abbrev pub verdictOf : declared.Verdict → (frame' : List ℕ) → Verdict
-verdictOf r frame' = record { number = r .number; n = r .n; m = r .m; buffer = frame' }
+verdictOf r frame' = record { number = r .number; n = r .n; m = r .m; at = r .at; buffer = frame' }
 
 abbrev pub readingOf : Answer → (frame' : List ℕ) → Reading
-readingOf r frame' = reading (record { number = r .number; n = r .n; m = r .m; buffer = frame' }) (r .next)
+readingOf r frame' =
+    reading (record { number = r .number; n = r .n; m = r .m; at = r .at; buffer = frame' }) (r .next)
 
 -- what a call gave is the verdict v
 pub record Gives (v : Verdict) (r : declared.Verdict) (frame' : List ℕ) : Type 0 where

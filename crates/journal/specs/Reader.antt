@@ -1,5 +1,6 @@
 -- Reading takes a line's text, or the journal and a place, and a key and a frame buffer of `size` bytes.
 use Prim.Native.Nat.{ℕ, zero, suc, _+_, _-_, _%_}
+use mathlib.Core.Bool.{cond}
 use mathlib.Core.List.{List, [], _∷_, _++_}
 use lib.ListN.{length, replicate}
 use lib.Dec.{leb, eqb}
@@ -7,16 +8,17 @@ use Rattle.answers.specs.Numbers.{done, tagDiffers, lineTooLong, notDigit, odd,
 use Rattle.answers.specs.Sizes.{fill, fixed, mostData, mostMessage, mostDigits}
 use Rattle.answers.specs.Rows.{Row, _else_, firstFailing}
 use Rattle.morus.specs.Seal.{unseal, accepts}
-use Rattle.hex.specs.Hex.{allDigits, unhex}
+use Rattle.hex.specs.Hex.{firstBad, allDigits, unhex}
 use Rattle.run.specs.Read as Read
-use Rattle.run.specs.Read.{Verdict, Reader, Reading, refused, bufferRows}
+use Rattle.run.specs.Read.{Verdict, Reader, Reading, refused, moved, bufferRows}
 use Rattle.run.specs.Run as Run
 use Rattle.run.specs.Run.{Entry}
 use Rattle.journal.specs.Frame.{frameWith, nIn, mIn, nonceIn, adIn, cipherIn, tagIn}
 
 -- the front, then 0xaa to the end
 unfoldable pub opened : (n m size : ℕ) → (front : List ℕ) → Verdict
-opened n m size front = record { number = done; n = n; m = m; buffer = front ++ replicate (size - length front) fill }
+opened n m size front =
+    record { number = done; n = n; m = m; at = 0; buffer = front ++ replicate (size - length front) fill }
 
 -- ---- the text of one line
 
@@ -49,7 +51,7 @@ openedFrame key f = frameWith (nonceIn f) (adIn f) (unseal key (nonceIn f) (adIn
 -- by the number
 unfoldable pub given : (key f : List ℕ) → (size number : ℕ) → Verdict
 given key f size zero = opened (nIn f) (mIn f) size (openedFrame key f)
-given key f size (suc k) = refused (suc k) size
+given key f size (suc k) = refused (suc k) 0 size
 
 -- a frame whose sizes are right
 abbrev pub openFrame : (key f : List ℕ) → (size : ℕ) → Verdict
@@ -59,8 +61,16 @@ openFrame key f size = given key f size (firstFailing (tagRows key f))
 unfoldable pub readFrame : (key f : List ℕ) → (size : ℕ) → Verdict
 readFrame key f size = given key f size (firstFailing (frameRows f ++ tagRows key f))
 
+-- the place that a number is about: that of the first byte that is no digit, or else the text's start
+abbrev pub placeOf : (number : ℕ) → (text : List ℕ) → ℕ
+placeOf number text = cond (eqb number notDigit) (firstBad text) 0
+
+-- by the number
+unfoldable pub told : (key text : List ℕ) → (size number : ℕ) → Verdict
+told key text size number = moved (placeOf number text) (given key (unhex text) size number)
+
 unfoldable pub readText : (key : List ℕ) → Reader
-readText key text size = given key (unhex text) size (firstFailing (lineRows key text size))
+readText key text size = told key text size (firstFailing (lineRows key text size))
 
 -- ---- a place of the journal, and the journal from the start
 

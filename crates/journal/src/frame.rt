@@ -72,13 +72,14 @@ fn open_frame(count: usize, key: Key, frame: &mut [u8]) -> Verdict
     copy_part(&mut data, 0, frame, sizes::DATA_AT, n);
     let number = Morus::new(nonce, key).decrypt_in_place(&mut frame[start..end], tag, &data[..n]);
     if number != numbers::DONE {
-        return refuse(number, frame);
+        return refuse(number, 0, frame);
     }
     fill(frame, count, sizes::FILL);
     Verdict {
         number: numbers::DONE,
         n,
         m: end - start,
+        at: 0,
     }
 }
 
@@ -89,7 +90,7 @@ pub(crate) fn read_frame(count: usize, key: Key, frame: &mut [u8]) -> Verdict
 {
     let number = frame_number(&frame[..count]);
     if number != numbers::DONE {
-        return refuse(number, frame);
+        return refuse(number, 0, frame);
     }
     open_frame(count, key, frame)
 }

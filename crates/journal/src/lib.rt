@@ -15,17 +15,21 @@ pub struct Line {
     pub length: usize,
 }
 
-// What is said of a line's text: a number, and how many bytes of data and of message there are.
+// What is said of a line's text: a number, how many bytes of data and of message there are, and the place of the first
+// byte that is no digit where that is what is wrong, else the place where the text starts: 0.
 pub struct Verdict {
     pub number: u8,
     pub n: usize,
     pub m: usize,
+    pub at: usize,
 }
 
-// What reading at a place answers: a number, the next place, and how many bytes of data and of message there are.
+// What reading at a place answers: a number, the next place, how many bytes of data and of message there are, and the
+// place of the first byte that is no digit where that is what is wrong, else the place given.
 pub struct Answer {
     pub number: u8,
     pub next: usize,
     pub n: usize,
     pub m: usize,
+    pub at: usize,
 }

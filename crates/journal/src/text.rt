@@ -13,16 +13,16 @@ pub fn read_text(text: &[u8], key: Key, frame: &mut [u8]) -> Verdict
     ensures { λ r. ⌜ TextRead (now (text .entry)) key (now (frame .entry)) r (now (frame .exit)) ⌝ }
 {
     if frame.len() < sizes::MOST_FRAME {
-        return refuse(numbers::BUFFER_TOO_SMALL, frame);
+        return refuse(numbers::BUFFER_TOO_SMALL, 0, frame);
     }
     if sizes::MOST_DIGITS < text.len() {
-        return refuse(numbers::LINE_TOO_LONG, frame);
+        return refuse(numbers::LINE_TOO_LONG, 0, frame);
     }
     match hex::read(text, frame) {
         Read::Bytes(count) => read_frame(count, key, frame),
-        Read::NotDigit => refuse(numbers::NOT_DIGIT, frame),
-        Read::Odd => refuse(numbers::ODD, frame),
+        Read::NotDigit(at) => refuse(numbers::NOT_DIGIT, at, frame),
+        Read::Odd => refuse(numbers::ODD, 0, frame),
         // Never: a text that is not too long has no more bytes than the longest frame.
-        Read::NoRoom => refuse(numbers::BUFFER_TOO_SMALL, frame),
+        Read::NoRoom => refuse(numbers::BUFFER_TOO_SMALL, 0, frame),
     }
 }

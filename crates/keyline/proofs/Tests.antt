@@ -49,7 +49,7 @@ module _ (input : List ℕ) where
         where
           go : (b : Bool) → allDigits (take keyDigits input) ≡ b → record { good = true; key = key } ≡ keyLine input
           go true d =
-              let a : stored (readOf (take keyDigits input) keySize) ≡ keySize = rw (digits, d) in
+              let a : stored (readOf (take keyDigits input) keySize) ≡ keySize = rw (d, digits) in
               let n : length (unhex (take keyDigits input)) ≡ keySize =
               omega (arith, unhex-length (take keyDigits input), digits) in
               let x : key ≡ keyOf input =

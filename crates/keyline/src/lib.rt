@@ -25,7 +25,7 @@ pub fn key_line(input: &[u8]) -> KeyLine
     }
     match hex::read(&input[..sizes::KEY_DIGITS], &mut key) {
         Read::Bytes(_) => KeyLine { good: true, key },
-        Read::NotDigit => KeyLine { good: false, key },
+        Read::NotDigit(_) => KeyLine { good: false, key },
         Read::Odd => KeyLine { good: false, key },
         Read::NoRoom => KeyLine { good: false, key },
     }

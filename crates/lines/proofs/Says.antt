@@ -10,7 +10,7 @@ use lib.ListN.{length}
 use borrow.Author.Tests.{lt-ltb, ne-eqb, eqb-true, ltb-true}
 use Rattle.buffers.specs.Bytes.{Bytes}
 use Rattle.hex.specs.Hex.{hexOf, isDigit, allDigits, unhex}
-use Rattle.hex.proofs.Digit.{and-true}
+use Rattle.hex.proofs.Digits.{digits-split}
 use Rattle.hex.proofs.Laws.{coded, decoded}
 use Rattle.hex.proofs.Index.{unhex-length}
 use Rattle.lines.specs.Words.{space, spacesIn}
@@ -22,7 +22,7 @@ use Rattle.lines.proofs.Digits.{other-length}
 pub no-space : (s : List ℕ) → allDigits s ≡ true → spacesIn s ≡ 0
 no-space [] d = refl
 no-space (c ∷ cs) d =
-    let t = and-true (isDigit c) (allDigits cs) d in
+    let t = digits-split c cs d in
     let e : eqb c space ≡ false = ne-eqb c space (λ x. clash (rw x at (t .0))) in
     rw e (omega (arith, no-space cs (t .1)))
   where

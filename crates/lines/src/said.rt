@@ -51,7 +51,7 @@ pub fn bytes_of(word: &[u8], bytes: &mut [u8]) -> Said
             number: numbers::DONE,
             count,
         },
-        Read::NotDigit => Said {
+        Read::NotDigit(_) => Said {
             number: numbers::NOT_DIGIT,
             count: 0,
         },

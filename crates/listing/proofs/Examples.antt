@@ -4,7 +4,7 @@ use native.Mathlib.Omega.{arith}
 use Rattle.answers.specs.Rows.{firstFailing}
 use Rattle.run.specs.Read as Read
 use Rattle.run.specs.Run as Run
-use Rattle.journal.specs.Reader.{textRows, frameRows, lineRows, given, readText}
+use Rattle.journal.specs.Reader.{textRows, frameRows, lineRows, given, told, readText}
 use Rattle.listing.specs.Decimal.{decimal, decimalIn}
 use Rattle.listing.specs.Text.{words, spaced, shown, answerText}
 use Rattle.listing.specs.Listing.{answers}
@@ -12,13 +12,16 @@ use Rattle.listing.specs.Examples.{Examples}
 use Rattle.listing.proofs.Refusals.{lists}
 
 pub examples : Examples
-unfolding firstFailing Read.refused Read.bufferRows Read.placeRows Read.readLine Read.readBy Read.readAt Run.runFrom
-    Run.run textRows frameRows lineRows given readText decimal decimalIn words spaced shown answerText answers
+unfolding firstFailing Read.refused Read.moved Read.bufferRows Read.placeRows Read.readLine Read.readBy Read.readAt
+    Run.runFrom Run.run textRows frameRows lineRows given told readText decimal decimalIn words spaced shown answerText
+    answers
 examples =
     record {
       with-message = refl;
       no-message = refl;
       refusal = refl;
       seven-bytes = λ key l b.
+          lists _ .listed (record { key = key; rest = _; sixteen = l; bytes = b; is = refl }) (omega arith) ∙ refl;
+      two-lines = λ key l b.
           lists _ .listed (record { key = key; rest = _; sixteen = l; bytes = b; is = refl }) (omega arith) ∙ refl;
     }

@@ -15,6 +15,7 @@ use Rattle.listing.specs.Sizes.{mostJournal, numberDigits, roomForAny}
 use Rattle.listing.specs.Text.{space, numbersOf, spaced, messageIn, shown, messageText, answerText}
 use Rattle.listing.proofs.Spaced.{Below, spaced-length}
 use Rattle.journal.proofs.Rows.{read-small}
+use Rattle.journal.proofs.Answers.{read-within}
 use borrow.Author.Needs.{needs}
 
 message-length : (n m : ℕ) (frame : List ℕ) → length (messageIn n m frame) ≤ m
@@ -29,12 +30,14 @@ shown-length number n m frame = go (eqb number done && ltb 0 m)
     go false = omega arith
 
 -- an answer of a journal that is not too big
-module _ (key j : List ℕ) (place size : ℕ) (h : place ≤ mostJournal) where
+module _ (key j : List ℕ) (place size : ℕ) (h : place ≤ mostJournal) (l : length j ≤ mostJournal) where
   abbrev pub answer : Entry
   answer = entry place (readAt key j place size)
 
   numbers-below : Below numberDigits (numbersOf answer)
-  numbers-below = let s = read-small key j place size in search needs
+  numbers-below =
+      let s = read-small key j place size in
+      let a = read-within key j place size mostJournal h l in search needs
 
   pub answer-length : length (answerText answer) ≤ roomForAny
   unfolding answerText

@@ -31,7 +31,8 @@ unfolding rest
 moves key j p room big small h =
     rw (
       step key j p h .splits,
-      le-leb (length (answerText (entry p x))) room (omega (arith, answer-length key j p mostFrame (omega arith))),
+      le-leb (length (answerText (entry p x))) room
+          (omega (arith, answer-length key j p mostFrame (omega arith) small)),
     )
     (go (isEnd x) refl)
   where

@@ -1,6 +1,6 @@
 -- The message is shown for an opened line with m above 0, and for no other; so a refusal's text is its numbers.
 use Prim.Native.Nat.{ℕ, _<_}
-use mathlib.Core.Path.{_≡_, ap, _∙_}
+use mathlib.Core.Path.{_≡_}
 use mathlib.Core.List.{List, [], _∷_, _++_, append-assoc, append-nil}
 use lib.ListN.{replicate}
 use borrow.Author.Tests.{lt-ltb, eq-eqb, ne-eqb}
@@ -26,17 +26,13 @@ module _ (number n m : ℕ) (frame : List ℕ) where
   has-message h l = rw (eq-eqb number 0 h, lt-ltb 0 m l)
 
 -- the whole text of a refusal
-joined : (a b : List ℕ)
-    → ((a ++ (32 ∷ (b ++ (32 ∷ 48 ∷ 32 ∷ 48 ∷ [])))) ++ []) ++ (10 ∷ [])
-    ≡ a ++ (32 ∷ (b ++ (32 ∷ 48 ∷ 32 ∷ 48 ∷ 10 ∷ [])))
-joined a b =
-    let tail : List ℕ = 32 ∷ 48 ∷ 32 ∷ 48 ∷ [] in
-    ap (λ (l : List ℕ). l ++ (10 ∷ [])) (append-nil (a ++ (32 ∷ (b ++ tail))))
-    ∙ append-assoc a (32 ∷ (b ++ tail)) (10 ∷ [])
-    ∙ ap (λ (l : List ℕ). a ++ (32 ∷ l)) (append-assoc b tail (10 ∷ []))
+joined : (a b c : List ℕ)
+    → ((a ++ (32 ∷ (b ++ (32 ∷ 48 ∷ 32 ∷ 48 ∷ 32 ∷ (c ++ []))))) ++ []) ++ (10 ∷ [])
+    ≡ a ++ (32 ∷ (b ++ (32 ∷ 48 ∷ 32 ∷ 48 ∷ 32 ∷ (c ++ (10 ∷ [])))))
+joined a b c = simp (append-nil, append-assoc)
 
-pub refused-text : (place number size next : ℕ) → (number ≡ 0 → ⊥)
-    → answerText (entry place (reading (blank number size) next)) ≡ refusedText place number
+pub refused-text : (place number at size next : ℕ) → (number ≡ 0 → ⊥)
+    → answerText (entry place (reading (blank number at size) next)) ≡ refusedText place number at
 unfolding answerText spaced words decimal decimalIn
-refused-text place number size next h =
-    rw (not-opened number 0 0 (replicate size 170) h) (joined (decimal place) (decimal number))
+refused-text place number at size next h =
+    rw (not-opened number 0 0 (replicate size 170) h) (joined (decimal place) (decimal number) (decimal at))

@@ -21,16 +21,18 @@ pub data Written (input : List ℕ) : ℕ → List ℕ → Type 0 where
   more : {place : ℕ} {out out' text : List ℕ} {r : Piece} → PieceFilled input place out r out' → r .end ≡ false
       → Written input (r .next) text → Written input place (take (r .length) out' ++ text)
 
--- what the listing shows of a line that the sealing made: its place, 0, n, m and, where there is any, the message
+-- what the listing shows of a line that the sealing made: its place, 0, n, m, its place again and, where there is any,
+-- the message
 abbrev pub sealedText : (place : ℕ) → (ad message : List ℕ) → List ℕ
 sealedText place ad message =
-    spaced (place ∷ done ∷ length ad ∷ length message ∷ [])
+    spaced (place ∷ done ∷ length ad ∷ length message ∷ place ∷ [])
     ++ cond (ltb 0 (length message)) (space ∷ hexOf message) []
     ++ (newline ∷ [])
 
--- and of a line that was refused: its place, its number and two zeros
-abbrev pub refusedText : (place number : ℕ) → List ℕ
-refusedText place number = decimal place ++ (32 ∷ (decimal number ++ (32 ∷ 48 ∷ 32 ∷ 48 ∷ 10 ∷ [])))
+-- and of a line that was refused: its place, its number, two zeros and the place that the refusal is about
+abbrev pub refusedText : (place number at : ℕ) → List ℕ
+refusedText place number at =
+    decimal place ++ (32 ∷ (decimal number ++ (32 ∷ 48 ∷ 32 ∷ 48 ∷ 32 ∷ (decimal at ++ (10 ∷ [])))))
 
 -- each byte is one of the digits 0 to 9
 abbrev pub Digits : List ℕ → Type 0

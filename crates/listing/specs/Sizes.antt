@@ -22,7 +22,7 @@ wordDigits = 20
 
 -- how many digits each number of an answer can have, where the journal is not too big
 abbrev pub numberDigits : List ℕ
-numberDigits = 5 ∷ 2 ∷ 2 ∷ 3 ∷ []
+numberDigits = 5 ∷ 2 ∷ 2 ∷ 3 ∷ 5 ∷ []
 
 -- with a space for each
 abbrev pub withSpaces : List ℕ → ℕ

@@ -1,5 +1,5 @@
--- One answer as a line of text: start place, number, n and m, single spaces between; for an opened line with m above 0
--- a space and the message in lowercase digits; then a newline.
+-- One answer as a line of text: start place, number, n, m and the place that the answer is about, single spaces
+-- between; for an opened line with m above 0 a space and the message in lowercase digits; then a newline.
 use Prim.Native.Nat.{ℕ, _+_}
 use mathlib.Core.Bool.{cond, _&&_}
 use mathlib.Core.List.{List, [], _∷_, _++_}
@@ -18,8 +18,11 @@ space = 0x20
 
 -- ---- the numbers
 
+abbrev pub numbersIn : (place : ℕ) → Verdict → List ℕ
+numbersIn place v = place ∷ v .number ∷ v .n ∷ v .m ∷ v .at ∷ []
+
 abbrev pub numbersOf : Entry → List ℕ
-numbersOf e = e .place ∷ e .reading .verdict .number ∷ e .reading .verdict .n ∷ e .reading .verdict .m ∷ []
+numbersOf e = numbersIn (e .place) (e .reading .verdict)
 
 -- a space, then the number
 abbrev pub word : ℕ → List ℕ

@@ -34,7 +34,7 @@ fn show(journal: &[u8], place: usize, key: Key, text: &mut [u8]) -> Shown
     let a = read_line(journal, place, key, &mut frame);
     let n = a.n;
     let m = a.m;
-    let list: [usize; sizes::NUMBERS] = [place, a.number as usize, n, m];
+    let list: [usize; sizes::NUMBERS] = [place, a.number as usize, n, m, a.at];
     let behind = put_numbers(text, &list);
     let end = put_shown(text, behind, a.number, n, m, &frame);
     Shown {

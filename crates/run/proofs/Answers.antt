@@ -12,8 +12,9 @@ use borrow.Author.Tests.{ltb-true, ltb-false, leb-true, leb-false, eqb-true, eqb
 use Rattle.answers.specs.Sizes.{mostFrame}
 use Rattle.answers.specs.Rows.{firstFailing}
 use Rattle.run.specs.Line.{newlineAt, textOf}
-use Rattle.run.specs.Read.{Verdict, Reader, reading, refused, bufferRows, placeRows, readLine, readBy, readAt}
-use Rattle.run.specs.Answers.{TextAt, AnsweredAt}
+use Rattle.run.specs.Read.{Verdict, Reader, reading, refused, moved}
+use Rattle.run.specs.Read.{bufferRows, placeRows, readLine, readBy, readAt}
+use Rattle.run.specs.Answers.{counted, TextAt, AnsweredAt}
 use Rattle.run.proofs.Newline.{newlineAt-le, textOf-plain, plain-at, cut}
 
 pub text-here : (j : List ℕ) (place : ℕ) → newlineAt (drop place j) < length (drop place j)
@@ -24,7 +25,7 @@ text-here j place h =
 
 pub answered : {Says : List ℕ → Verdict → Type 0} (read : Reader) (j : List ℕ) (place size : ℕ)
     → ((t : List ℕ) → Says t (read t size)) → AnsweredAt Says j place size (readAt read j place size)
-unfolding readAt readBy readLine placeRows bufferRows firstFailing refused
+unfolding readAt readBy readLine placeRows bufferRows firstFailing refused moved
 answered {Says} read j place size says =
     go (leb mostFrame size) (leb place (length j)) (eqb place (length j))
     (ltb (newlineAt (drop place j)) (length (drop place j))) refl refl refl refl
@@ -48,6 +49,6 @@ answered {Says} read j place size says =
         let k : length (textOf (drop place j)) ≡ newlineAt (drop place j) =
         length-take-le _ (drop place j) (omega arith) in
         let a : AnsweredAt Says j place size
-        (reading (read (textOf (drop place j)) size) (place + length (textOf (drop place j)) + 1)) =
+        (reading (counted place (read (textOf (drop place j)) size)) (place + length (textOf (drop place j)) + 1)) =
         AnsweredAt.line (leb-true _ _ e13) (omega arith) (text-here j place h) (says (textOf (drop place j))) in
         rw (e13, e12, e14, e11) (rw k at a)

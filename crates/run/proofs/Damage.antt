@@ -10,7 +10,7 @@ use lib.ListN.{length, drop, length-append, length-drop}
 use borrow.Author.Tests.{le-ltb, lt-ltb, le-leb, lt-leb}
 use Rattle.answers.specs.Sizes.{mostFrame}
 use Rattle.run.specs.Line.{newline, newlineAt, textOf}
-use Rattle.run.specs.Read.{Reader, reading}
+use Rattle.run.specs.Read.{Reader, reading, moved}
 use Rattle.run.specs.Run.{Entry, entry, run, shift, shiftEntry, answersFrom, answersBefore}
 use Rattle.run.specs.Claims.{NotEnd, Every, Pairwise, Before, Alike}
 use Rattle.run.proofs.Newline.{Plain, newlineAt-le, textOf-plain, cut}
@@ -20,7 +20,7 @@ abbrev UpTo : ℕ → List Entry → Type 0
 UpTo p = Every (λ (e : Entry). e .place ≤ p)
 
 shift-shift : (a b c : ℕ) (e : Entry) → a + b ≡ c → shiftEntry a (shiftEntry b e) ≡ shiftEntry c e
-unfolding shiftEntry shift
+unfolding shiftEntry shift moved
 shift-shift a b c e h = simp (← h, add-assoc)
 
 pub shifts : (a b c : ℕ) (l : List Entry) → a + b ≡ c → map (shiftEntry a) (map (shiftEntry b) l) ≡ map (shiftEntry c) l
@@ -53,10 +53,18 @@ before-shifted p [] = refl
 before-shifted p (e ∷ es) = rw (le-ltb (p + e .place) p (omega arith), before-shifted p es)
 
 alike : (a b : ℕ) (l : List Entry) → Pairwise (Alike a b) (map (shiftEntry (a + 1)) l) (map (shiftEntry (b + 1)) l)
-unfolding shiftEntry shift
+unfolding shiftEntry shift moved
 alike a b [] = tt
 alike a b (e ∷ es) = (
-  record { verdict = refl; place = omega arith; next = omega arith },
+  record {
+    number = refl;
+    n = refl;
+    m = refl;
+    buffer = refl;
+    place = omega arith;
+    next = omega arith;
+    at = omega arith;
+  },
   alike a b es,
 )
 
@@ -64,14 +72,14 @@ module _ (read : Reader) (not-end : NotEnd read) (size : ℕ) (big : mostFrame �
   plain-before : (A : List ℕ) → Plain A → Before read size A
   plain-before A h =
       record {
-        answers = entry 0 (reading (read A size) (length A + 1)) ∷ [];
+        answers = entry 0 (reading (moved 0 (read A size)) (length A + 1)) ∷ [];
         places = (omega arith, tt);
         splits = λ T. one-line read not-end size big A T h;
       }
 
   line-before : (s A : List ℕ) → Plain s → Before read size A → Before read size (s ++ newline ∷ A)
   line-before s A h B = record {
-    answers = entry 0 (reading (read s size) (length s + 1)) ∷ map (shiftEntry (length s + 1)) (B .answers);
+    answers = entry 0 (reading (moved 0 (read s size)) (length s + 1)) ∷ map (shiftEntry (length s + 1)) (B .answers);
     places = (omega arith, up-to-shift (length s + 1) (length A) (length (s ++ newline ∷ A)) (B .answers) (omega (arith, length-append s (newline ∷ A))) (B .places));
     splits = λ T.
         let d =

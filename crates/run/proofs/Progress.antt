@@ -9,15 +9,16 @@ use lib.ListN.{length, length-drop}
 use borrow.Author.Tests.{ne-eqb}
 use Rattle.answers.specs.Sizes.{mostFrame}
 use Rattle.answers.specs.Numbers.{end}
-use Rattle.run.specs.Read.{Reader, Reading, reading, refused, readAt}
+use Rattle.run.specs.Read.{Reader, Reading, reading, refused, moved, readAt}
 use Rattle.run.specs.Run.{Entry, entry, runFrom, run}
+use Rattle.run.specs.Answers.{blank}
 use Rattle.run.specs.Claims.{NotEnd, Every, Moves, Ends}
 use Rattle.run.proofs.Rows.{found-in, rows, at-end}
 
 module _ (read : Reader) (not-end : NotEnd read) (size : ℕ) (big : mostFrame ≤ size) where
   pub moves : (j : List ℕ) (p : ℕ) → p < length j
       → Moves j p (readAt read j p size .verdict .number) (readAt read j p size .next)
-  unfolding refused
+  unfolding refused moved
   moves j p h =
       rows read j p size (λ (r : Reading). Moves j p (r .verdict .number) (r .next))
       (λ s. absurd (omega arith))
@@ -53,7 +54,7 @@ module _ (read : Reader) (not-end : NotEnd read) (size : ℕ) (big : mostFrame �
   record EndsFrom (j : List ℕ) (k p : ℕ) : Type 0 where
     before : List Entry
     no-sooner : Every (λ (e : Entry). e .reading .verdict .number ≡ end → ⊥) before
-    splits : runFrom read j size k p ≡ before ++ (entry (length j) (reading (refused end size) (length j)) ∷ [])
+    splits : runFrom read j size k p ≡ before ++ (entry (length j) (reading (blank 14 (length j) size) (length j)) ∷ [])
     calls : length (runFrom read j size k p) ≤ k
 
   ends-from : (j : List ℕ) (k p : ℕ) → p ≤ length j → length j < k + p → EndsFrom j k p

@@ -8,7 +8,7 @@ use lib.ListN.{length, take, drop, length-drop}
 use Rattle.answers.specs.Numbers.{noNewline, placeBeyond, bufferTooSmall, end}
 use Rattle.answers.specs.Sizes.{mostFrame}
 use Rattle.run.specs.Line.{newlineAt}
-use Rattle.run.specs.Read.{Verdict, Reader, Reading, reading, refused, readAt}
+use Rattle.run.specs.Read.{Verdict, Reader, Reading, reading, refused, moved, readAt}
 use Rattle.run.specs.Answers.{NoNewline, TextAt, AnsweredAt}
 use Rattle.run.proofs.Newline.{plain-of, Found, text-found}
 use Rattle.run.proofs.Answers.{answered}
@@ -24,15 +24,15 @@ module _ (read : Reader) (j : List ℕ) (place size : ℕ) where
 
   -- what holds of each row, under its tests, holds of the reading
   pub rows : (P : Reading → Type 0)
-      → (size < mostFrame → P (reading (refused bufferTooSmall size) place))
-      → (mostFrame ≤ size → length j < place → P (reading (refused placeBeyond size) place))
-      → (mostFrame ≤ size → place ≡ length j → P (reading (refused end size) place))
+      → (size < mostFrame → P (reading (refused bufferTooSmall place size) place))
+      → (mostFrame ≤ size → length j < place → P (reading (refused placeBeyond place size) place))
+      → (mostFrame ≤ size → place ≡ length j → P (reading (refused end place size) place))
       → (mostFrame ≤ size → place < length j → NoNewline (drop place j)
-      → P (reading (refused noNewline size) (length j)))
+      → P (reading (refused noNewline place size) (length j)))
       → (mostFrame ≤ size → place < length j → (t : List ℕ) → TextAt j place t
-      → P (reading (read t size) (place + length t + 1)))
+      → P (reading (moved place (read t size)) (place + length t + 1)))
       → P (readAt read j place size)
-  unfolding refused
+  unfolding refused moved
   rows P p13 p12 p14 p11 p = go (answered {Says = By} read j place size (λ t. refl))
     where
       go : {x : Reading} → AnsweredAt By j place size x → P x
@@ -44,9 +44,9 @@ module _ (read : Reader) (j : List ℕ) (place size : ℕ) where
 
   -- ---- each row
 
-  pub too-small : size < mostFrame → readAt read j place size ≡ reading (refused bufferTooSmall size) place
+  pub too-small : size < mostFrame → readAt read j place size ≡ reading (refused bufferTooSmall place size) place
   too-small h =
-      rows (λ x. x ≡ reading (refused bufferTooSmall size) place)
+      rows (λ x. x ≡ reading (refused bufferTooSmall place size) place)
       (λ s. refl)
       (λ b l. absurd (omega arith))
       (λ b e. absurd (omega arith))
@@ -54,18 +54,18 @@ module _ (read : Reader) (j : List ℕ) (place size : ℕ) where
       (λ b l t T. absurd (omega arith))
 
   module _ (big : mostFrame ≤ size) where
-    pub beyond : length j < place → readAt read j place size ≡ reading (refused placeBeyond size) place
+    pub beyond : length j < place → readAt read j place size ≡ reading (refused placeBeyond place size) place
     beyond h =
-        rows (λ x. x ≡ reading (refused placeBeyond size) place)
+        rows (λ x. x ≡ reading (refused placeBeyond place size) place)
         (λ s. absurd (omega arith))
         (λ b l. refl)
         (λ b e. absurd (omega arith))
         (λ b l n. absurd (omega arith))
         (λ b l t T. absurd (omega arith))
 
-    pub at-end : place ≡ length j → readAt read j place size ≡ reading (refused end size) place
+    pub at-end : place ≡ length j → readAt read j place size ≡ reading (refused end place size) place
     at-end h =
-        rows (λ x. x ≡ reading (refused end size) place)
+        rows (λ x. x ≡ reading (refused end place size) place)
         (λ s. absurd (omega arith))
         (λ b l. absurd (omega arith))
         (λ b e. refl)
@@ -73,9 +73,9 @@ module _ (read : Reader) (j : List ℕ) (place size : ℕ) where
         (λ b l t T. absurd (omega arith))
 
     pub unended : place < length j → newlineAt (drop place j) ≡ length (drop place j)
-        → readAt read j place size ≡ reading (refused noNewline size) (length j)
+        → readAt read j place size ≡ reading (refused noNewline place size) (length j)
     unended h e =
-        rows (λ x. x ≡ reading (refused noNewline size) (length j))
+        rows (λ x. x ≡ reading (refused noNewline place size) (length j))
         (λ s. absurd (omega arith))
         (λ b l. absurd (omega arith))
         (λ b e. absurd (omega arith))
@@ -83,11 +83,11 @@ module _ (read : Reader) (j : List ℕ) (place size : ℕ) where
         (λ b l t T. absurd (omega (arith, found-in T .at, found-in T .inside)))
 
     pub found : (t : List ℕ) → TextAt j place t
-        → readAt read j place size ≡ reading (read t size) (place + length t + 1)
+        → readAt read j place size ≡ reading (moved place (read t size)) (place + length t + 1)
     found t T =
         let f = found-in T in
         let i : newlineAt (drop place j) < length (drop place j) = omega (arith, f .at, f .inside) in
-        rows (λ x. x ≡ reading (read t size) (place + length t + 1))
+        rows (λ x. x ≡ reading (moved place (read t size)) (place + length t + 1))
         (λ s. absurd (omega arith))
         (λ b l. absurd (omega (arith, length-drop place j)))
         (λ b e. absurd (omega (arith, length-drop place j)))
@@ -97,13 +97,13 @@ module _ (read : Reader) (j : List ℕ) (place size : ℕ) where
     -- ---- the last two, by where the search for the newline ended
 
     module _ (h : place < length j) (stop : ℕ) (is : stop ≡ place + newlineAt (drop place j)) where
-      pub unended-at : stop ≡ length j → readAt read j place size ≡ reading (refused noNewline size) stop
+      pub unended-at : stop ≡ length j → readAt read j place size ≡ reading (refused noNewline place size) stop
       unended-at e = rw e (unended h (omega (arith, length-drop place j)))
 
       pub found-at : (stop ≡ length j → ⊥)
-          → readAt read j place size ≡ reading (read (take (stop - place) (drop place j)) size) (stop + 1)
+          → readAt read j place size ≡ reading (moved place (read (take (stop - place) (drop place j)) size)) (stop + 1)
       found-at e =
-          rows (λ x. x ≡ reading (read (take (stop - place) (drop place j)) size) (stop + 1))
+          rows (λ x. x ≡ reading (moved place (read (take (stop - place) (drop place j)) size)) (stop + 1))
           (λ s. absurd (omega arith))
           (λ b l. absurd (omega arith))
           (λ b e. absurd (omega arith))

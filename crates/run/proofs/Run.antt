@@ -12,7 +12,7 @@ use borrow.Author.Tests.{ne-eqb}
 use Rattle.answers.specs.Sizes.{mostFrame}
 use Rattle.answers.specs.Numbers.{end, noNewline}
 use Rattle.run.specs.Line.{newline}
-use Rattle.run.specs.Read.{Reader, reading, refused, readAt}
+use Rattle.run.specs.Read.{Reader, reading, refused, moved, readAt}
 use Rattle.run.specs.Run.{Entry, entry, runFrom, run, shiftEntry}
 use Rattle.run.specs.Claims.{NotEnd, Every}
 use Rattle.run.proofs.Newline.{Plain, plain-at}
@@ -39,7 +39,7 @@ module _ (read : Reader) (size : ℕ) where
 
   -- a line's answer
   pub at-line : mostFrame ≤ size → (s t : List ℕ) → Plain s
-      → readAt read (s ++ newline ∷ t) 0 size ≡ reading (read s size) (length s + 1)
+      → readAt read (s ++ newline ∷ t) 0 size ≡ reading (moved 0 (read s size)) (length s + 1)
   at-line big s t h =
       found read (s ++ newline ∷ t) 0 size big s (record { rest = t; is = refl; first = plain-at s h }) ∙ rw zero-add
 
@@ -55,17 +55,17 @@ module _ (read : Reader) (not-end : NotEnd read) (size : ℕ) (big : mostFrame �
 
   pub one-line : (s t : List ℕ) → Plain s
       → run read (s ++ newline ∷ t) size
-      ≡ entry 0 (reading (read s size) (length s + 1)) ∷ map (shiftEntry (length s + 1)) (run read t size)
-  unfolding run runFrom
+      ≡ entry 0 (reading (moved 0 (read s size)) (length s + 1)) ∷ map (shiftEntry (length s + 1)) (run read t size)
+  unfolding run runFrom moved
   one-line s t h =
       simp (at-line read size big s t h, ne-eqb (read s size .number) end (not-end s size))
-      (ap (λ (l : List Entry). entry 0 (reading (read s size) (length s + 1)) ∷ l)
+      (ap (λ (l : List Entry). entry 0 (reading (moved 0 (read s size)) (length s + 1)) ∷ l)
       (rest-run s t (length (s ++ newline ∷ t)) (omega (arith, length-append s (newline ∷ t)))))
 
   -- no newline: one answer 11, then the end
   pub last-line : (s : List ℕ) → Plain s → 0 < length s
-      → run read s size ≡ entry 0 (reading (refused noNewline size) (length s))
-      ∷ entry (length s) (reading (refused end size) (length s)) ∷ []
+      → run read s size ≡ entry 0 (reading (refused noNewline 0 size) (length s))
+      ∷ entry (length s) (reading (refused end (length s) size) (length s)) ∷ []
   unfolding run runFrom refused
   last-line (x ∷ s) h l =
       simp (
@@ -73,6 +73,6 @@ module _ (read : Reader) (not-end : NotEnd read) (size : ℕ) (big : mostFrame �
         at-end read (x ∷ s) (length (x ∷ s)) size big refl,
       )
 
-  pub no-line : run read [] size ≡ entry 0 (reading (refused end size) 0) ∷ []
+  pub no-line : run read [] size ≡ entry 0 (reading (refused end 0 size) 0) ∷ []
   unfolding run runFrom refused
   no-line = simp (at-end read [] 0 size big refl)

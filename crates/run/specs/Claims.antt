@@ -5,8 +5,9 @@ use mathlib.Core.List.{List, [], _∷_, _++_, map}
 use lib.ListN.{length, replicate}
 use Rattle.answers.specs.Numbers.{end}
 use Rattle.run.specs.Line.{newline}
-use Rattle.run.specs.Read.{Verdict, Reader, Reading, reading, refused}
+use Rattle.run.specs.Read.{Verdict, Reader, Reading, reading}
 use Rattle.run.specs.Run.{Entry, entry, run, shiftEntry}
+use Rattle.run.specs.Answers.{blank}
 
 -- all that the laws ask of a reader: the end answer is not one of its own
 abbrev pub NotEnd : Reader → Type 0
@@ -40,7 +41,7 @@ pub data Calls (Call : ℕ → Reading → Type 0) : ℕ → List Entry → Type
 pub record Ends (read : Reader) (j : List ℕ) (size : ℕ) : Type 0 where
   pub before : List Entry
   pub no-sooner : Every (λ (e : Entry). e .reading .verdict .number ≡ end → ⊥) before
-  pub splits : run read j size ≡ before ++ (entry (length j) (reading (refused end size) (length j)) ∷ [])
+  pub splits : run read j size ≡ before ++ (entry (length j) (reading (blank 14 (length j) size) (length j)) ∷ [])
   pub calls : length (run read j size) ≤ length j + 1
 
 -- the answers to the lines of A: they depend on A alone, and stand before those of whatever comes after A and a newline
@@ -52,9 +53,13 @@ pub record Before (read : Reader) (size : ℕ) (A : List ℕ) : Type 0 where
 
 -- two answers to one line that stands behind a bytes and behind b bytes
 pub record Alike (a b : ℕ) (x y : Entry) : Type 0 where
-  pub verdict : x .reading .verdict ≡ y .reading .verdict
+  pub number : x .reading .verdict .number ≡ y .reading .verdict .number
+  pub n : x .reading .verdict .n ≡ y .reading .verdict .n
+  pub m : x .reading .verdict .m ≡ y .reading .verdict .m
+  pub buffer : x .reading .verdict .buffer ≡ y .reading .verdict .buffer
   pub place : x .place + b ≡ y .place + a
   pub next : x .reading .next + b ≡ y .reading .next + a
+  pub at : x .reading .verdict .at + b ≡ y .reading .verdict .at + a
 
 -- a buffer of `size` bytes, each of them 170; no data and no message
 pub record Blank (size n m : ℕ) (buffer : List ℕ) : Type 0 where

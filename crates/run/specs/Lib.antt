@@ -1,5 +1,5 @@
 pub mod Line
 pub mod Read
 pub mod Run
-pub mod Claims
 pub mod Answers
+pub mod Claims

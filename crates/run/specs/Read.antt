@@ -9,15 +9,21 @@ use Rattle.answers.specs.Sizes.{fill, mostFrame}
 use Rattle.answers.specs.Rows.{Row, _else_, firstFailing}
 use Rattle.run.specs.Line.{newlineAt, textOf}
 
--- what is said of a line's text, and the frame buffer afterwards; no place is in it
+-- What is said, and the frame buffer afterwards. `at` is the place that it is about: what is said of a line's text
+-- counts it from the text's start, what is said at a place of a journal from the journal's.
 pub record Verdict : Type 0 where
   pub number : ℕ
   pub n : ℕ
   pub m : ℕ
+  pub at : ℕ
   pub buffer : List ℕ
 
-unfoldable pub refused : (number size : ℕ) → Verdict
-refused number size = record { number = number; n = 0; m = 0; buffer = replicate size fill }
+unfoldable pub refused : (number at size : ℕ) → Verdict
+refused number at size = record { number = number; n = 0; m = 0; at = at; buffer = replicate size fill }
+
+-- d bytes further on
+unfoldable pub moved : (d : ℕ) → Verdict → Verdict
+moved d v = record { number = v .number; n = v .n; m = v .m; at = d + v .at; buffer = v .buffer }
 
 -- from a line's text, without its newline, and the size of the frame buffer
 abbrev pub Reader : Type 0
@@ -50,12 +56,13 @@ nextAfter number j place = cond (eqb number noNewline) (length j) place
 
 -- of the line from the place on, where it has a newline
 unfoldable pub readLine : Reader → (journal : List ℕ) → (place size : ℕ) → Reading
-readLine read j place size = reading (read (textOf (drop place j)) size) (place + newlineAt (drop place j) + 1)
+readLine read j place size =
+    reading (moved place (read (textOf (drop place j)) size)) (place + newlineAt (drop place j) + 1)
 
 -- by the number
 unfoldable pub readBy : Reader → (journal : List ℕ) → (place size number : ℕ) → Reading
 readBy read j place size zero = readLine read j place size
-readBy read j place size (suc k) = reading (refused (suc k) size) (nextAfter (suc k) j place)
+readBy read j place size (suc k) = reading (refused (suc k) place size) (nextAfter (suc k) j place)
 
 unfoldable pub readAt : Reader → (journal : List ℕ) → (place size : ℕ) → Reading
 readAt read j place size = readBy read j place size (firstFailing (placeRows j place size))

@@ -6,7 +6,7 @@ use lib.ListN.{length, getD}
 use lib.Dec.{leb, ltb, eqb}
 use Rattle.answers.specs.Numbers.{end}
 use Rattle.run.specs.Line.{newline}
-use Rattle.run.specs.Read.{Reader, Reading, reading, readAt}
+use Rattle.run.specs.Read.{Reader, Reading, reading, moved, readAt}
 
 pub record Entry : Type 0 where
   pub place : ℕ
@@ -29,7 +29,7 @@ run read j size = runFrom read j size (suc (length j)) 0
 -- ---- moved by d bytes
 
 unfoldable pub shift : ℕ → Reading → Reading
-shift d r = reading (r .verdict) (d + r .next)
+shift d r = reading (moved d (r .verdict)) (d + r .next)
 
 unfoldable pub shiftEntry : ℕ → Entry → Entry
 shiftEntry d e = entry (d + e .place) (shift d (e .reading))

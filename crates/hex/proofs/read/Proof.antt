@@ -9,7 +9,9 @@ use Rattle.hex.proofs.read.Statement.{statement}
 use Rattle.hex.proofs.read.Tie as tie
 
 returns : tie.Need-returns
-returns c = not-digit _ _ (sym (c .before .all-digits .ensures) ∙ not-true _ (c .if1 .taken))
+returns c =
+    rw (c .first-bad .ensures)
+    (not-digit _ _ (sym (c .before .before .all-digits .ensures) ∙ not-true _ (c .before .if1 .taken)))
 
 returns-2 : tie.Need-returns-2
 returns-2 c = odd _ _ (sym (c .before .before .all-digits .ensures) ∙ not-false _ (c .before .if1 .left)) (c .if2 .taken)
@@ -27,6 +29,7 @@ pub read-spec : {M : Type 1} → statement M
 read-spec =
     tie.close
     (tie.spec
+    (λ c κs. search needs)
     (λ c κs. search needs)
     returns
     returns-2

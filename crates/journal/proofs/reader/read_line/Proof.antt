@@ -7,7 +7,7 @@ use Rattle.buffers.proofs.Finds.{first-within}
 use Rattle.run.specs.Line.{newline, newlineAt}
 use Rattle.run.proofs.Newline.{ended}
 use Rattle.run.proofs.Rows.{too-small, beyond, at-end, unended-at, found-at}
-use Rattle.journal.proofs.Promised.{promised}
+use Rattle.journal.proofs.Promised.{promised, gives-moved, moved-fits}
 use borrow.Author.Needs.{needs}
 use Rattle.journal.proofs.reader.read_line.Statement.{statement}
 use Rattle.journal.proofs.reader.read_line.Tie as tie
@@ -63,16 +63,31 @@ part-read-text-end : tie.Need-part-read-text-end
 unfolding start
 part-read-text-end c = ended _ _ _ (at-newline (c .before)) (omega arith)
 
+-- the text that was read, from its verdict
+text-of : tie.After-slice-known6 → tie.Else4
+text-of c = c .before .before .before .before .before
+
+moved-requires : tie.Need-moved-requires
+unfolding start text-of
+moved-requires c κs =
+    let t = text-of c in
+    let s = start (t .before .before) in
+    let f = moved-fits _ (s .args .journal .now) (s .args .place) (t .before .find .result) _
+    (c .before .before .read-text .ensures) (omega (arith, at-newline (t .before))) in
+    omega (arith, part-read-text-end t)
+
 add-answer : tie.Need-add-answer
-add-answer c = omega (arith, part-read-text-end (c .before .before .before .before .before))
+unfolding text-of
+add-answer c = omega (arith, part-read-text-end (text-of (c .before)))
 
 returns-5 : tie.Need-returns-5
 unfolding start
 returns-5 c =
-    let r : tie.After-read-text = c .before .before .before in
+    let m : tie.After-moved = c .before in
+    let r : tie.After-read-text = m .before .before .before in
     let t : tie.Else4 = r .before .before .before in
     let f : tie.After-find = t .before in
-    promised (r .read-text .ensures) (c .answer5 .ensures)
+    promised (gives-moved _ (r .read-text .ensures) (m .moved .ensures)) (c .answer5 .ensures)
     (found-at _ _ _ _ (f .before .before .before .if1 .left) (inside (f .before)) _ (at-newline f) (t .if4 .left))
 
 pub read-line-spec : {M : Type 1} → statement M
@@ -100,6 +115,7 @@ read-line-spec =
     sub-read-text
     part-read-text-end
     (λ c κs. search needs)
+    moved-requires
     add-answer
     (λ c κs. search needs)
     (λ c. search needs)

@@ -9,7 +9,7 @@ use Rattle.hex.specs.Promise.{number}
 use Rattle.answers.specs.Rows.{firstFailing}
 use Rattle.journal.specs.Reader.{textRows}
 use Rattle.journal.proofs.Rows.{no-room, too-long, text-fails, text-passes}
-use Rattle.journal.proofs.Digits.{not-no-room, text-number, Digits, read-digits}
+use Rattle.journal.proofs.Digits.{not-no-room, text-number, bad-at, Digits, read-digits}
 use borrow.Author.Needs.{needs}
 use Rattle.journal.proofs.text.read_text.Statement.{statement}
 use Rattle.journal.proofs.text.read_text.Tie as tie
@@ -60,26 +60,27 @@ returns-3 c =
 returns-4 : tie.Need-returns-4
 unfolding start
 returns-4 c =
-    let t : tie.After-enum-told = c .before .before .before .before in
+    let t : tie.After-at = c .before .before .before .before .before in
     let r : tie.After-read = t .before .before .before .before in
-    let e = sym (ap number (t .enum-told .given .1)) ∙ number-is r in
-    rw (text-fails _ _ _ (big r) _ e (omega arith), ← r .read .kept .1 .0) (c .before .before .refuse3 .ensures)
+    let e = sym (ap number (t .at .given .1)) ∙ number-is r in
+    let b = bad-at (r .read .ensures) (r .before .before .if2 .left) (big r) (t .at .given .0 .0) (t .at .given .1) in
+    rw (text-fails _ _ _ (big r) _ e (omega arith), ← b, ← r .read .kept .1 .0) (c .before .before .refuse3 .ensures)
 
 returns-5 : tie.Need-returns-5
 unfolding start
 returns-5 c =
-    let t : tie.After-enum-told2 = c .before .before .before .before in
+    let t : tie.After-enum-told = c .before .before .before .before in
     let r : tie.After-read = t .before .before .before .before in
-    let e = sym (ap number (t .enum-told2 .given .1)) ∙ number-is r in
+    let e = sym (ap number (t .enum-told .given .1)) ∙ number-is r in
     rw (text-fails _ _ _ (big r) _ e (omega arith), ← r .read .kept .1 .0) (c .before .before .refuse4 .ensures)
 
 -- the buffer has room for every line that is not too long
 returns-6 : tie.Need-returns-6
 unfolding start
 returns-6 c =
-    let t : tie.After-enum-told3 = c .before .before .before .before in
+    let t : tie.After-enum-told2 = c .before .before .before .before in
     let r : tie.After-read = t .before .before .before .before in
-    let e = sym (ap number (t .enum-told3 .given .1)) ∙ number-is r in
+    let e = sym (ap number (t .enum-told2 .given .1)) ∙ number-is r in
     absurd (not-no-room (start r .args .text .now) (sym e))
 
 pub read-text-spec : {M : Type 1} → statement M
