@@ -9,7 +9,7 @@ use Rattle.listing.specs.Decimal.{decimal, decimalIn}
 use Rattle.listing.specs.Text.{words, spaced, shown, answerText}
 use Rattle.listing.specs.Listing.{answers}
 use Rattle.listing.specs.Examples.{Examples}
-use Rattle.listing.proofs.Refusals.{lists}
+use Rattle.listing.proofs.Refusals.{listed-is}
 
 pub examples : Examples
 unfolding firstFailing Read.refused Read.moved Read.bufferRows Read.placeRows Read.readLine Read.readBy Read.readAt
@@ -21,7 +21,7 @@ examples =
       no-message = refl;
       refusal = refl;
       seven-bytes = λ key l b.
-          lists _ .listed (record { key = key; rest = _; sixteen = l; bytes = b; is = refl }) (omega arith) ∙ refl;
+          listed-is (record { key = key; rest = _; sixteen = l; bytes = b; is = refl }) (omega arith) ∙ refl;
       two-lines = λ key l b.
-          lists _ .listed (record { key = key; rest = _; sixteen = l; bytes = b; is = refl }) (omega arith) ∙ refl;
+          listed-is (record { key = key; rest = _; sixteen = l; bytes = b; is = refl }) (omega arith) ∙ refl;
     }

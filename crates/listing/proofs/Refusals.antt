@@ -1,13 +1,15 @@
 -- By the key line's laws the definition's two tests are the statement's, and each case is one of its texts. The
 -- answers begin with the digit of place 0.
-use Prim.Native.Nat.{ℕ}
+use Prim.Native.Nat.{ℕ, _≤_}
 use mathlib.Core.Path.{_≡_, refl, sym, ap, _∙_}
 use mathlib.Core.Bool.{Bool, true, false}
-use mathlib.Core.List.{List}
+use mathlib.Core.List.{List, [], _∷_}
 use native.Mathlib.Omega.{arith}
 use lib.ListN.{length, getD}
 use borrow.Author.Tests.{le-leb, lt-leb}
 use Rattle.run.specs.Run as Run
+use Rattle.run.specs.Run.{Entry}
+use Rattle.answers.specs.Sizes.{mostFrame}
 use Rattle.journal.specs.Reader.{run}
 use Rattle.keyline.specs.declared.KeyLine.{KeyLine}
 use Rattle.keyline.specs.KeyLine.{goodKey, keyOf, keyLine, Begins}
@@ -17,7 +19,7 @@ use Rattle.listing.specs.Decimal.{decimal, decimalIn}
 use Rattle.listing.specs.Text.{spaced, answerText}
 use Rattle.listing.specs.Listing.{journalOf, answers, listing}
 use Rattle.listing.specs.Claims.{Written}
-use Rattle.listing.specs.Refusals.{Lists}
+use Rattle.listing.specs.Refusals.{RowsOf, Lists}
 use Rattle.listing.proofs.Joined.{joined}
 
 module _ {input : List ℕ} where
@@ -42,9 +44,20 @@ module _ {input : List ℕ} where
     journal-is : journalOf input ≡ b .rest
     journal-is = ap journalOf (b .is) ∙ line-rest (b .key) (b .rest) (b .sixteen)
 
+every-row : (es : List Entry) → RowsOf es (answers es)
+unfolding answers
+every-row [] = RowsOf.none
+every-row (e ∷ es) = RowsOf.row (every-row es)
+
 first-digit : (key j : List ℕ) (size : ℕ) → getD (answers (run key j size)) 0 0 ≡ 48
 unfolding answers Run.run Run.runFrom answerText spaced decimal decimalIn
 first-digit key j size = refl
+
+-- of a good input
+pub listed-is : {input : List ℕ} (b : Begins input) → length (b .rest) ≤ mostJournal
+    → listing input ≡ answers (run (b .key) (b .rest) mostFrame)
+unfolding listing
+listed-is b h = rw (good b, journal-is b, le-leb (length (b .rest)) mostJournal h, key-is b)
 
 pub lists : (input : List ℕ) → Lists input (listing input)
 unfolding listing
@@ -52,10 +65,8 @@ lists input =
     record {
       bad-key = λ h. rw (no-key h);
       too-big = λ b h. rw (good b, journal-is b, lt-leb (length (b .rest)) mostJournal (omega arith));
-      listed = λ b h. rw (good b, journal-is b, le-leb (length (b .rest)) mostJournal (omega arith), key-is b);
-      zero-first = λ b h.
-          rw (good b, journal-is b, le-leb (length (b .rest)) mostJournal (omega arith))
-          (first-digit (keyOf input) (b .rest) _);
+      listed = λ b h. rw (listed-is b (omega arith)) (every-row _);
+      zero-first = λ b h. rw (listed-is b (omega arith)) (first-digit (b .key) (b .rest) _);
     }
 
 -- and so of what the calls give, joined
