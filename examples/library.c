@@ -1,4 +1,5 @@
-/* Votrikany from C: seals and opens a message, writes two lines of a journal and reads them back, whole and damaged.
+/* Votrikany from C: seals and opens a message, writes two lines of a journal with a roll mark between them, and reads
+ * them back, whole and damaged.
  *   cc -Iinclude examples/library.c target/staticlib/libexport.a
  */
 #include <stdio.h>
@@ -70,6 +71,7 @@ int main(void)
     size_t end = 0;
     seal_and_open();
     end = add_line(journal, end, sizeof journal, 2, "resident 4096 KB");
+    journal[end++] = '\n'; /* as the log roller does: an empty line is a roll mark, and no damage */
     end = add_line(journal, end, sizeof journal, 3, "active 1024 KB");
     read_all(journal, end);
     journal[10] = journal[10] == '0' ? '1' : '0'; /* another digit: the tag differs */

@@ -13,7 +13,7 @@
  *    4  over 706 bytes before the newline 13  the frame buffer has under 353 bytes
  *    5  a byte is not 0-9 or a-f          14  the place is the journal's end
  *    6  an odd number of digits           15  the line buffer is shorter than the line
- *    7  under 33 frame bytes
+ *    7  1 to 32 frame bytes               16  a roll mark: an empty line, no damage
  *
  * What the caller owes. Nothing checks a caller that is not Rattle:
  *  - `key`, `nonce` and `tag` point to 16 bytes each. They, and the pointers to a size_t, are never null.
@@ -52,7 +52,8 @@ enum {
     VOTRIKANY_PLACE_BEYOND = 12,
     VOTRIKANY_BUFFER_TOO_SMALL = 13,
     VOTRIKANY_END = 14,
-    VOTRIKANY_LINE_TOO_SMALL = 15
+    VOTRIKANY_LINE_TOO_SMALL = 15,
+    VOTRIKANY_ROLL_MARK = 16
 };
 
 /* A frame is nonce (16), data count n (1), data (n), message or ciphertext (m), tag (16); a line is a frame in lowercase
@@ -110,9 +111,11 @@ uint8_t votrikany_write_line(const uint8_t *key, const uint8_t *nonce, const uin
  *   0  `frame` begins with the frame: nonce at 0, the count n at 16, data at 17, the message at 17 + n, the tag behind it.
  *      Every byte behind the frame is 0xaa. `*n` and `*m` are the lengths of data and message.
  *      `*next` is one past the line's newline.
- *   Any other number: every byte of `frame` is 0xaa, `*n` and `*m` are 0. `*next` is one past the line's newline for 1 and
- *   4 to 10, the journal's length for 11, and `place` for 12, 13 and 14.
- *   They are looked for in the order 13, 12, 14, 11, 4, 5, 6, 7, 8, 9, 10, 1.
+ *   Any other number: every byte of `frame` is 0xaa, `*n` and `*m` are 0. `*next` is one past the line's newline for 1,
+ *   4 to 10 and 16, the journal's length for 11, and `place` for 12, 13 and 14.
+ *   They are looked for in the order 13, 12, 14, 11, 16, 4, 5, 6, 7, 8, 9, 10, 1.
+ *   16 is a roll mark: an empty line with its newline, which a log roller writes at each roll. There is no reading in
+ *   it, and nothing is wrong with it: who counts damage leaves it out.
  *   With 5, `*at` is the place of the line's first byte that is not 0-9 or a-f, counted from the journal's start as
  *   `place` is; with every other number, 0 too, `*at` is `place`.
  * From place 0, with `*next` for the next place and a frame buffer of 353 bytes or more, a journal of L bytes answers

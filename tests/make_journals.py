@@ -1,7 +1,8 @@
 """Cases of the journal for the program `cases`: `write` and `read`, in the form of make_cases.
 
-Journals are made of lines that the judge sealed: good ones, damaged, cut, joined and random ones, with the newline of
-the last one there or not. Each is read at every place where a line starts, and at some others.
+Journals are made of lines that the judge sealed: good ones, damaged, cut, joined and random ones, with empty lines as
+the log roller writes them, and the newline of the last one there or not. Each is read at every place where a line
+starts, and at some others.
 """
 import random
 
@@ -44,7 +45,7 @@ def shaped(rng):
     """A line of digits with a frame of its own making: too short, n too large, n past the frame, m too large, or random."""
     kind = rng.randrange(6)
     if kind == 0:
-        return frame_line(some(rng, rng.randrange(33)))
+        return frame_line(some(rng, rng.randrange(1, 33)))
     if kind == 1:
         return frame_line(some(rng, 16) + bytes([rng.randrange(65, 256)]) + some(rng, rng.randrange(16, 337)))
     if kind == 2:
@@ -98,12 +99,15 @@ def damaged(rng, text):
 
 
 def journal(rng, lines):
-    """Some of the lines, some of them damaged, in at most LIMIT bytes; sometimes the last newline is lost."""
+    """Some of the lines, some damaged, some with a roll mark before or behind, in at most LIMIT bytes; sometimes the
+    last newline is lost."""
     out = b""
     for _ in range(rng.randrange(9)):
         text = rng.choice(lines)
         if rng.randrange(2):
             text = damaged(rng, text)
+        if rng.randrange(6) == 0:
+            text = rng.choice((b"\n" + text, text + b"\n"))
         if len(out) + len(text) <= LIMIT:
             out += text
     return out[:-1] if rng.randrange(8) == 0 else out
@@ -114,6 +118,14 @@ def places(rng, text):
     starts = [0] + [i + 1 for i, b in enumerate(text) if b == 10] + [len(text)]
     others = [rng.randrange(len(text) + 3) for _ in range(2)] + [rng.choice([len(text) + 1, MOST, 2**63])]
     return starts + others
+
+
+def roll_mark(case, answer):
+    """Whether an empty line is read. The place of any line's newline is answered with 16 too, and does not count."""
+    if not answer.startswith(b"16 "):
+        return False
+    place, text = int(case.split(b" ")[2]), case.split(b" ")[4]
+    return place == 0 or text[2 * place - 2:2 * place] == b"0a"
 
 
 def random_cases(count, seed, ask):
@@ -150,6 +162,17 @@ def not_digits(good):
     ]
 
 
+def roll_marks(good):
+    """Empty lines: first, in the middle, last, in a row, behind damage, before a cut line; and short lines, which are
+    none."""
+    damaged = good[:-2] + (b"0\n" if good[-2:] != b"0\n" else b"1\n")
+    return [
+        b"\n" + good, good + b"\n" + good, good + b"\n", b"\n\n", good + b"\n\n" + good, b"\n" * 5,
+        damaged + b"\n" + good, b"0g\n\n" + good, b"\nabc", good + b"\n" + good[:-1],
+        b"\r\n", b" \n", b"\0\n", b"0\n", b"f\n", b"00\n", b"\n\r\n\n", b"\n0\n\n",
+    ]
+
+
 def fixed_cases(ask):
     """The journal's part of the list: every answer of the table, and the edges of sizes and places."""
     rng = random.Random(353)
@@ -167,13 +190,19 @@ def fixed_cases(ask):
         b"00" * 32 + b"\n", b"00" * 33 + b"\n", frame_line(bytes(16) + b"\x41" + bytes(100)), frame_line(bytes(16) + b"\x40" + bytes(79)),
         frame_line(bytes(16) + b"\x01" + bytes(16)), frame_line(bytes(353)), frame_line(bytes(16) + b"\x3f" + bytes(336)), good[:-3] + b"0\n", good[:-1], good + good, good[:-1] + good,
     ]
-    for text in bad + not_digits(good):
+    for text in bad + not_digits(good) + roll_marks(good):
         for place in [0] + [i + 1 for i, b in enumerate(text) if b == 10]:
             yield line("read", key, place, 353, text), None
     for place in (1, 2, 3, 4):
         yield line("read", key, place, 353, b"0g0g\n"), None
     for size in (0, 352, 353, 354, 1000):
         yield line("read", key, 0, size, good), None
+        yield line("read", key, 0, size, b"\n"), None
+        yield line("read", key, 0, size, b"\n" + good), None
+        yield line("read", key, len(good), size, good + b"\n" + good), None
+    for place in (1, 2, MOST):
+        yield line("read", key, place, 352, b"\n"), None
+        yield line("read", key, place, 353, b"\n"), None
     for place in (1, len(good) - 1, len(good), len(good) + 1, MOST):
         yield line("read", key, place, 353, good), None
     yield line("read", key, 0, 353, b""), None

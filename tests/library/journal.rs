@@ -1,5 +1,7 @@
 //! The journal of bindings/rust: what is written is read back, and refusals leave what the header says.
-use votrikany::journal::{read_line, write_line, Answer, Line, FRAME_SIZE, LONGEST_LINE};
+use votrikany::journal::{
+    read_line, write_line, Answer, Line, FRAME_SIZE, LONGEST_LINE, ROLL_MARK,
+};
 
 /// A reading of the line at `place` in a text that ends with it, which is refused with a number and says a place.
 fn refused(text: &[u8], place: usize, number: u8, at: usize) {
@@ -49,7 +51,8 @@ fn places() {
     for (digits, n, number) in [
         (707, 0, 4),
         (67, 0, 6),
-        (0, 0, 7),
+        (0, 0, ROLL_MARK),
+        (2, 0, 7),
         (64, 0, 7),
         (66, 65, 8),
         (66, 1, 9),
@@ -64,6 +67,28 @@ fn places() {
     assert_eq!((beyond.number, beyond.next, beyond.at), (12, 9, 9));
     let small = read_line(b"\n0g\n", 1, &[7; 16], &mut [0; 352]);
     assert_eq!((small.number, small.next, small.at), (13, 1, 1));
+}
+
+/// Who counts damage can leave the roll marks out: of seven lines two are opened, three are roll marks and two damaged.
+fn roll_marks() {
+    let key = [7; 16];
+    let mut line = [0; LONGEST_LINE];
+    let length = write_line(&key, &[9; 16], b"host", b"reading", &mut line).length;
+    let good = &line[..length];
+    let text = [b"\n", good, b"\n\n\r\n", &good[1..], good].concat();
+    let (mut place, mut numbers, mut frame) = (0, Vec::new(), [0; FRAME_SIZE]);
+    loop {
+        let answer = read_line(&text, place, &key, &mut frame);
+        if answer.number == 14 {
+            break;
+        }
+        assert!(answer.number == 0 || frame == [0xaa; FRAME_SIZE]);
+        numbers.push(answer.number);
+        place = answer.next;
+    }
+    assert_eq!(numbers, [ROLL_MARK, 0, ROLL_MARK, ROLL_MARK, 5, 6, 0]);
+    let small = read_line(b"\n", 0, &key, &mut [0; 352]);
+    assert_eq!((small.number, small.next, small.at), (13, 0, 0));
 }
 
 fn main() {
@@ -138,6 +163,7 @@ fn main() {
     );
     assert_eq!(small, [0x55; 66]);
     places();
+    roll_marks();
     println!(
         "journal: {} lines written and read back, refusals as the header says",
         lines

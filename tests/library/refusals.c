@@ -119,7 +119,6 @@ static void reader(void)
     refused(NULL, 0, 0, 400, VOTRIKANY_END, 0, "no journal at null");
     refused("0g\nabc", 6, 3, 400, VOTRIKANY_NO_NEWLINE, 6, "no newline");
     refused("0g\nabc\n", 7, 3, 400, VOTRIKANY_ODD, 7, "an odd number of digits");
-    refused("0g\n\n", 4, 3, 400, VOTRIKANY_FRAME_TOO_SHORT, 4, "an empty line");
     frame_refused(707, "00", VOTRIKANY_LINE_TOO_LONG, "707 digits");
     frame_refused(64, "00", VOTRIKANY_FRAME_TOO_SHORT, "32 frame bytes");
     frame_refused(66, "41", VOTRIKANY_DATA_TOO_LONG, "n = 65");
@@ -128,6 +127,23 @@ static void reader(void)
     frame_refused(66, "00", VOTRIKANY_TAG_DIFFERS, "a frame of zeros");
     refused("0g\nabc", 6, 3, 352, VOTRIKANY_BUFFER_TOO_SMALL, 3, "a frame buffer of 352 bytes, at 3");
     refused("0g\nabc", 6, (size_t)-1, 400, VOTRIKANY_PLACE_BEYOND, (size_t)-1, "the place of all ones");
+}
+
+/* An empty line with its newline; a line of one byte is none. */
+static void roll_marks(void)
+{
+    refused("\n", 1, 0, VOTRIKANY_FRAME_SIZE, VOTRIKANY_ROLL_MARK, 1, "a newline alone");
+    refused("\nabc", 4, 0, 400, VOTRIKANY_ROLL_MARK, 1, "in front of a line without newline");
+    refused("0g\n\nabc\n", 8, 3, 400, VOTRIKANY_ROLL_MARK, 4, "in the middle");
+    refused("0g\n\n\n", 5, 3, 400, VOTRIKANY_ROLL_MARK, 4, "the first of two");
+    refused("0g\n\n\n", 5, 4, 400, VOTRIKANY_ROLL_MARK, 5, "the second of two, the last line");
+    refused("\n", 1, 0, 352, VOTRIKANY_BUFFER_TOO_SMALL, 0, "13 comes before 16");
+    refused("\n", 1, 2, 400, VOTRIKANY_PLACE_BEYOND, 2, "a place beyond a roll mark");
+    refused("\n", 1, 1, 400, VOTRIKANY_END, 1, "an empty last line without newline is the end");
+    refused("0\n", 2, 0, 400, VOTRIKANY_ODD, 2, "a digit alone is no roll mark");
+    refused("00\n", 3, 0, 400, VOTRIKANY_FRAME_TOO_SHORT, 3, "two digits are no roll mark");
+    not_digit("\r\n", 2, 0, 0, "a carriage return alone is no roll mark");
+    not_digit(" \n", 2, 0, 0, "a space alone is no roll mark");
 }
 
 static void bad_digits(void)
@@ -184,6 +200,7 @@ int main(void)
     cipher();
     writer();
     reader();
+    roll_marks();
     bad_digits();
     every_bad_byte();
     opened();

@@ -123,6 +123,7 @@ static void line_refused(size_t digits, size_t at, char byte, uint8_t wanted, co
 
 static void journal_refused(void)
 {
+    line_refused(0, 0, '\n', VOTRIKANY_ROLL_MARK, "an empty line");
     line_refused(707, 0, '0', VOTRIKANY_LINE_TOO_LONG, "707 digits");
     line_refused(706, 705, 'g', VOTRIKANY_NOT_DIGIT, "a last digit that is none");
     line_refused(705, 0, '0', VOTRIKANY_ODD, "705 digits");

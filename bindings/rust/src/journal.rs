@@ -9,6 +9,9 @@ pub const LONGEST_LINE: usize = 707;
 /// The least that a frame buffer has.
 pub const FRAME_SIZE: usize = 353;
 
+/// Reading's number for an empty line, as a log roller writes one at each roll: no reading, and no damage.
+pub const ROLL_MARK: u8 = 16;
+
 /// What writing reports: a number, and the line's length, 0 where the number is not 0.
 #[derive(Debug, Clone, Copy, Eq, PartialEq)]
 pub struct Line {

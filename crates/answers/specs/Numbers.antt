@@ -65,6 +65,10 @@ end = 14
 abbrev pub lineTooSmall : ℕ
 lineTooSmall = 15
 
+-- an empty line: the log roller's mark
+abbrev pub rollMark : ℕ
+rollMark = 16
+
 -- each is below: the listing counts on two digits
 abbrev pub numbersBelow : ℕ
 numbersBelow = 100

@@ -12,6 +12,11 @@ pub record Row : Type 0 where
 abbrev pub _else_ : Bool → ℕ → Row
 test else number = record { test = test; number = number }
 
+-- the numbers of rows, in their order
+abbrev pub order : List Row → List ℕ
+order [] = []
+order (r ∷ rs) = r .number ∷ order rs
+
 -- the number of the first row whose test fails
 unfoldable pub firstFailing : List Row → ℕ
 firstFailing [] = done

@@ -31,3 +31,5 @@ pub const BUFFER_TOO_SMALL: u8 = 13;
 pub const END: u8 = 14;
 
 pub const LINE_TOO_SMALL: u8 = 15;
+
+pub const ROLL_MARK: u8 = 16;

@@ -12,7 +12,7 @@ use Rattle.journal.specs.declared.Verdict.{Verdict}
 use Rattle.journal.specs.declared.Answer.{Answer}
 use Rattle.journal.specs.declared.Line.{Line}
 use Rattle.journal.specs.Promise.{TextRead, LineRead, LineWritten}
-use Rattle.journal.specs.Answers.{TextOutcome, ReadOutcome, WriteOutcome}
+use Rattle.journal.specs.Answers.{TextOutcome, ReadOutcome, WriteOutcome, Order}
 
 -- whatever the promise of an entry point allows, for every input
 pub record Demand1 : Type 0 where
@@ -25,7 +25,7 @@ pub record Demand1 : Type 0 where
       → EncryptedInto (begun nonce key) d m out r out' → SealOutcome key nonce d m out r out'
   pub decrypt : (nonce key d c t out : List ℕ) {r : ℕ} {out' : List ℕ}
       → DecryptedInto (begun nonce key) d c t out r out' → OpenOutcome key nonce d c t out r out'
-  -- the reader: 13, 12, 14, 11, and of a line's text 4, 5, 6, 7, 8, 9, 10, 1
+  -- the reader: 13, 12, 14, 11, and of a line's text 16, 4, 5, 6, 7, 8, 9, 10, 1
   pub read-line : (j : List ℕ) (place : ℕ) (key frame : List ℕ) {r : Answer} {frame' : List ℕ}
       → LineRead j place key frame r frame' → ReadOutcome j place key frame r frame'
   pub read-text : (text key frame : List ℕ) {r : Verdict} {frame' : List ℕ}
@@ -33,3 +33,5 @@ pub record Demand1 : Type 0 where
   -- the writer: 8, 10, 15
   pub write-line : (key nonce ad message line : List ℕ) {r : Line} {line' : List ℕ}
       → LineWritten key nonce ad message line r line' → WriteOutcome key nonce ad message line r line'
+  -- the order of the reader's tests and of the writer's, as the definitions have them
+  pub order : Order

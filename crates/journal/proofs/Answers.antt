@@ -9,7 +9,7 @@ use native.Mathlib.Nat.{add-zero}
 use lib.ListN.{length, drop}
 use lib.Seq.{take-at, drop-at}
 use lib.Dec.{leb, eqb}
-use borrow.Author.Tests.{leb-true, leb-false, eqb-true, eqb-false}
+use borrow.Author.Tests.{le-leb, leb-true, leb-false, eqb-true, eqb-false}
 use Rattle.answers.specs.Sizes.{fixed, mostData, mostMessage, mostFrame, mostDigits}
 use Rattle.answers.specs.Rows.{firstFailing}
 use Rattle.morus.specs.Seal.{unseal, accepts}
@@ -18,11 +18,11 @@ use Rattle.hex.specs.Hex.{firstBad, allDigits, unhex}
 use Rattle.hex.specs.Claims.{NotHex}
 use Rattle.hex.proofs.Laws.{decoded}
 use Rattle.hex.proofs.Ranges.{digits-are, bad-is}
-use Rattle.run.specs.Read.{refused, moved, bufferRows}
+use Rattle.run.specs.Read.{refused, moved, bufferRows, placeRows}
 use Rattle.journal.specs.Frame.{nIn, mIn, nonceIn, adIn, cipherIn, tagIn}
 use Rattle.journal.specs.Reader.{textRows, frameRows, tagRows, lineRows}
 use Rattle.journal.specs.Reader.{opened, openedFrame, given, readFrame, told, readText, readAt}
-use Rattle.journal.specs.Claims.{handed}
+use Rattle.journal.specs.Claims.{Marks, handed}
 use Rattle.journal.specs.Line.{lineOf, lineLength}
 use Rattle.journal.specs.Writer.{Writing, writerRows, writerNumber, writing, writeInto}
 use Rattle.journal.specs.Promise.{verdictOf, readingOf, TextRead, LineRead, LineWritten}
@@ -30,12 +30,13 @@ use Rattle.journal.specs.declared.Verdict as declared
 use Rattle.journal.specs.declared.Answer.{Answer}
 use Rattle.journal.specs.declared.Line.{Line}
 use Rattle.journal.specs.Answers.{Framed, Own, FrameAnswer, TextAnswer, sealedLine, lineSize, WriteAnswer, Placed}
-use Rattle.journal.specs.Answers.{TextOutcome, ReadAnswer, ReadOutcome, WriteOutcome}
+use Rattle.journal.specs.Answers.{TextOutcome, ReadAnswer, ReadOutcome, WriteOutcome, Order}
 use Rattle.run.proofs.Answers.{answered}
 use Rattle.journal.proofs.Frames.{Sound, sound}
 use Rattle.journal.proofs.Rows.{text-blanks, text-passes}
 use Rattle.journal.proofs.Sizes.{line-size}
 use Rattle.journal.proofs.Points.{text-points, points, within}
+use Rattle.journal.proofs.Marks.{text-marks, marks}
 use Rattle.journal.proofs.Refused.{not-opened, not-written}
 
 -- ---- a frame
@@ -107,35 +108,46 @@ module _ (key : List ℕ) (size : ℕ) (text : List ℕ) where
   pub text-answered : TextAnswer key size text (readText key text size)
   unfolding readText told moved given lineRows bufferRows textRows firstFailing refused
   text-answered =
-      go (leb mostFrame size) (leb (length text) mostDigits) (allDigits text) (eqb (length text % 2) 0)
-      refl refl refl refl (frame-answered key size (unhex text))
+      go (leb mostFrame size) (leb 1 (length text)) (leb (length text) mostDigits) (allDigits text)
+      (eqb (length text % 2) 0) refl refl refl refl refl (frame-answered key size (unhex text))
     where
-      go : (b13 b4 b5 b6 : Bool) → leb mostFrame size ≡ b13 → leb (length text) mostDigits ≡ b4 → allDigits text ≡ b5
-          → eqb (length text % 2) 0 ≡ b6 → FrameAnswer key size (unhex text) (readFrame key (unhex text) size)
+      go : (b13 b16 b4 b5 b6 : Bool) → leb mostFrame size ≡ b13 → leb 1 (length text) ≡ b16
+          → leb (length text) mostDigits ≡ b4 → allDigits text ≡ b5 → eqb (length text % 2) 0 ≡ b6
+          → FrameAnswer key size (unhex text) (readFrame key (unhex text) size)
           → TextAnswer key size text (readText key text size)
-      go false b4 b5 b6 e13 e4 e5 e6 a = rw e13 (TextAnswer.too-small (leb-false _ _ e13))
-      go true false b5 b6 e13 e4 e5 e6 a =
-          rw (e13, e4) (TextAnswer.too-long (leb-true _ _ e13) (leb-false _ _ e4))
-      go true true false b6 e13 e4 e5 e6 a =
+      go false b16 b4 b5 b6 e13 e16 e4 e5 e6 a = rw e13 (TextAnswer.too-small (leb-false _ _ e13))
+      go true false b4 b5 b6 e13 e16 e4 e5 e6 a =
+          let z = leb-false 1 (length text) e16 in
+          let s = le-leb (length text) mostDigits (omega arith) in
+          rw (e13, s, e16) (TextAnswer.roll-mark (leb-true _ _ e13) (omega arith))
+      go true true false b5 b6 e13 e16 e4 e5 e6 a =
+          rw (e13, e16, e4) (TextAnswer.too-long (leb-true _ _ e13) (leb-true _ _ e16) (leb-false _ _ e4))
+      go true true true false b6 e13 e16 e4 e5 e6 a =
           let b : NotHex text (firstBad text + 0) = rw add-zero (bad-is text e5) in
-          rw (e13, e4, e5) (TextAnswer.not-digit (leb-true _ _ e13) (leb-true _ _ e4) b)
-      go true true true false e13 e4 e5 e6 a =
+          rw (e13, e16, e4, e5)
+          (TextAnswer.not-digit (leb-true _ _ e13) (leb-true _ _ e16) (leb-true _ _ e4) b)
+      go true true true true false e13 e16 e4 e5 e6 a =
           let o = eqb-false (length text % 2) 0 e6 in
-          rw (e13, e4, e5, e6)
-          (TextAnswer.odd (leb-true _ _ e13) (leb-true _ _ e4) (digits-are text e5) (omega arith))
-      go true true true true e13 e4 e5 e6 a =
+          rw (e13, e16, e4, e5, e6)
+          (TextAnswer.odd (leb-true _ _ e13) (leb-true _ _ e16) (leb-true _ _ e4) (digits-are text e5) (omega arith))
+      go true true true true true e13 e16 e4 e5 e6 a =
           let big = leb-true mostFrame size e13 in
+          let some = leb-true 1 (length text) e16 in
           let short = leb-true (length text) mostDigits e4 in
           let even = eqb-true (length text % 2) 0 e6 in
           let d = decoded text e5 even in
-          rw (text-passes key text size big (record { short = short; digits = e5; even = even }))
-          (TextAnswer.frame big short (d .bytes) (sym (d .back)) a)
+          rw (text-passes key text size big (record { some = some; short = short; digits = e5; even = even }))
+          (TextAnswer.frame big some short (d .bytes) (sym (d .back)) a)
 
 -- ---- a place
 
 module _ (key j : List ℕ) (place size : ℕ) where
   pub read-answered : ReadAnswer key j place size (readAt key j place size)
   read-answered = answered {Says = TextAnswer key size} (readText key) j place size (text-answered key size)
+
+  -- 16 exactly at a roll mark, and 7 never there
+  pub read-marks : Marks j place size (readAt key j place size)
+  read-marks = marks read-answered
 
   -- an answer is about no place further than the one given and the journal's end
   pub read-within : (most : ℕ) → place ≤ most → length j ≤ most → readAt key j place size .verdict .at ≤ most
@@ -152,6 +164,7 @@ module _ {text key frame frame' : List ℕ} {r : declared.Verdict} where
       record {
         answer = a;
         points = text-points a;
+        marks = text-marks a;
         refused = λ e. (rw is at (text-blanks key text size)) .blank e;
       }
 
@@ -162,7 +175,7 @@ module _ {j key frame frame' : List ℕ} {place : ℕ} {r : Answer} where
       let is : readAt key j place size ≡ readingOf r frame' = ap₂ readingOf (sym (h .answer)) (sym (h .buffer)) in
       let a : ReadAnswer key j place size (readingOf r frame') =
       rw is at (read-answered key j place size) in
-      record { answer = a; points = points a; refused = not-opened h }
+      record { answer = a; points = points a; marks = marks a; refused = not-opened h }
 
 -- ---- writing
 
@@ -224,3 +237,10 @@ module _ {key nonce ad message line line' : List ℕ} {r : Line} (w : LineWritte
       let a : WriteAnswer key nonce ad message line (r .number) (r .length) line' =
       rw (w .report, w .buffer) (writer-answered key nonce ad message line) in
       record { answer = a; refused = not-written w; written = placed key nonce ad message line a }
+
+-- ---- the order of the tests
+
+pub order : Order
+unfolding placeRows lineRows bufferRows textRows frameRows tagRows writerRows
+order =
+    record { place = λ j place size. refl; text = λ key text size. refl; writer = λ n m room. refl }

@@ -29,12 +29,17 @@ pub record Digits (text bytes' : List ℕ) (count : ℕ) : Type 0 where
   pub small : count ≤ mostFrame
   pub front : take count bytes' ≡ unhex text
 
-module _ {text bytes bytes' : List ℕ} {r : Read} (h : ReadOf text bytes r bytes') (short : length text ≤ mostDigits)
-    (room : mostFrame ≤ length bytes) where
+module _ {text bytes bytes' : List ℕ} {r : Read} (h : ReadOf text bytes r bytes') (some : 1 ≤ length text)
+    (short : length text ≤ mostDigits) (room : mostFrame ≤ length bytes) where
   pub text-number : number r ≡ firstFailing (textRows text)
   unfolding textRows firstFailing
   text-number =
-      h .numbered ∙ rw (le-leb (length text) mostDigits short, le-leb (length text / 2) (length bytes) (omega arith))
+      h .numbered
+      ∙ rw (
+        le-leb 1 (length text) some,
+        le-leb (length text) mostDigits short,
+        le-leb (length text / 2) (length bytes) (omega arith),
+      )
 
   pub bad-at : (at : ℕ) → r ≡ Answer.NotDigit at → at ≡ firstBad text
   bad-at at e = bad-only text at (rw e at (bad-said h (ap number e)))

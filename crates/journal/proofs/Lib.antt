@@ -10,6 +10,7 @@ pub mod Opened
 pub mod Calls
 pub mod Refused
 pub mod Points
+pub mod Marks
 pub mod Answers
 pub mod Promised
 pub mod RoundTrip

@@ -72,6 +72,7 @@ module _ (key : List ℕ) where
         let K = coded f (S .bytes) in
         let len = S .len in
         record {
+          some = omega (arith, K .len);
           short = omega (arith, K .len, F .ad64, F .message256);
           digits = K .digits;
           even = omega (arith, K .len);

@@ -28,10 +28,11 @@ module _ {key : List ℕ} {size : ℕ} where
 
   pub text-points : {text : List ℕ} {v : Verdict} → TextAnswer key size text v → TextPoints text (v .number) (v .at)
   text-points (TextAnswer.too-small s) = record { bad = λ e. absurd (omega arith); other = λ n. refl }
-  text-points (TextAnswer.too-long b l) = record { bad = λ e. absurd (omega arith); other = λ n. refl }
-  text-points (TextAnswer.not-digit b l h) = record { bad = λ e. h; other = λ n. absurd (n refl) }
-  text-points (TextAnswer.odd b l d o) = record { bad = λ e. absurd (omega arith); other = λ n. refl }
-  text-points (TextAnswer.frame b l y h a) =
+  text-points (TextAnswer.roll-mark b z) = record { bad = λ e. absurd (omega arith); other = λ n. refl }
+  text-points (TextAnswer.too-long b s l) = record { bad = λ e. absurd (omega arith); other = λ n. refl }
+  text-points (TextAnswer.not-digit b s l h) = record { bad = λ e. h; other = λ n. absurd (n refl) }
+  text-points (TextAnswer.odd b s l d o) = record { bad = λ e. absurd (omega arith); other = λ n. refl }
+  text-points (TextAnswer.frame b s l y h a) =
       let p = frame-points a in record { bad = λ e. absurd (p .0 e); other = λ n. p .1 }
 
 -- within the text in any case

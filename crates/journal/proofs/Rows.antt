@@ -9,7 +9,7 @@ use lib.ListN.{length, getD, take}
 use lib.Seq.{getD-take, length-take-le}
 use native.Mathlib.Nat.{add-zero, zero-add}
 use borrow.Author.Tests.{le-leb, lt-leb, leb-true, leb-false, eqb-true, eq-eqb, ne-eqb}
-use Rattle.answers.specs.Numbers.{lineTooLong, notDigit, bufferTooSmall, end, numbersBelow}
+use Rattle.answers.specs.Numbers.{rollMark, lineTooLong, notDigit, bufferTooSmall, end, numbersBelow}
 use Rattle.answers.specs.Sizes.{nonceSize, fixed, mostData, mostMessage, mostFrame, mostDigits}
 use Rattle.answers.specs.Rows.{Row, firstFailing}
 use Rattle.answers.proofs.Rows.{must, AllPass, first-lt, first-not, zero-pass, pass-first, fail-first, pass-both}
@@ -25,6 +25,7 @@ use Rattle.journal.specs.Reader.{opened, given, readFrame, placeOf, told
 -- ---- what the rows say where they pass
 
 pub record GoodText (text : List ℕ) : Type 0 where
+  pub some : 1 ≤ length text
   pub short : length text ≤ mostDigits
   pub digits : allDigits text ≡ true
   pub even : length text % 2 ≡ 0
@@ -43,12 +44,19 @@ pub record GoodLine (key text : List ℕ) : Type 0 where
 
 good-text : (text : List ℕ) → AllPass (textRows text) → GoodText text
 unfolding textRows
-good-text text (short, (digits, (even, none))) =
-    record { short = omega (arith, leb-true); digits = digits; even = eqb-true (length text % 2) 0 even }
+good-text text (some, (short, (digits, (even, none)))) =
+    record {
+      some = omega (arith, leb-true);
+      short = omega (arith, leb-true);
+      digits = digits;
+      even = eqb-true (length text % 2) 0 even;
+    }
 
 text-good : (text : List ℕ) → GoodText text → AllPass (textRows text)
 unfolding textRows
-text-good text g = (must (λ e. omega (arith, leb-false)), (g .digits, (eq-eqb (length text % 2) 0 (g .even), tt)))
+text-good text g =
+    let odd = eq-eqb (length text % 2) 0 (g .even) in
+    (must (λ e. omega (arith, leb-false)), (must (λ e. omega (arith, leb-false)), (g .digits, (odd, tt))))
 
 good-frame : (f : List ℕ) → AllPass (frameRows f) → GoodFrame f
 unfolding frameRows
@@ -139,9 +147,16 @@ module _ (key text : List ℕ) (size : ℕ) where
         (told-first key text size (textRows text)
         (frameRows (unhex text) ++ tagRows key (unhex text)) number e h)
 
+    pub roll-mark : length text < 1 → readText key text size ≡ refused rollMark 0 size
+    unfolding textRows firstFailing
+    roll-mark h =
+        text-fails rollMark (rw (le-leb (length text) mostDigits (omega arith), lt-leb 1 (length text) h)) (omega arith)
+
     pub too-long : mostDigits < length text → readText key text size ≡ refused lineTooLong 0 size
     unfolding textRows firstFailing
-    too-long h = text-fails lineTooLong (rw (lt-leb (length text) mostDigits h)) (omega arith)
+    too-long h =
+        text-fails lineTooLong (rw (le-leb 1 (length text) (omega arith), lt-leb (length text) mostDigits h))
+        (omega arith)
 
     pub text-passes : GoodText text → readText key text size ≡ readFrame key (unhex text) size
     unfolding readText readFrame lineRows bufferRows frameRows tagRows

@@ -4,17 +4,20 @@ use Prim.Native.Nat.{ℕ, _+_, _*_, _%_, _<_, _≤_}
 use mathlib.Core.Path.{_≡_}
 use mathlib.Core.List.{List, [], _∷_, _++_}
 use lib.ListN.{length, getD, take, drop}
+use Rattle.answers.specs.Rows.{order}
 use Rattle.buffers.specs.Bytes.{Bytes}
 use Rattle.morus.specs.Seal.{seal, sealTag}
 use Rattle.hex.specs.Hex.{hexOf}
 use Rattle.hex.specs.Claims.{HexDigits, NotHex}
-use Rattle.run.specs.Read.{Verdict, Reading}
+use Rattle.run.specs.Read.{Verdict, Reading, placeRows}
 use Rattle.run.specs.Claims.{Blank}
 use Rattle.run.specs.Answers.{blank, AnsweredAt}
 use Rattle.journal.specs.declared.Verdict as declared
 use Rattle.journal.specs.declared.Answer.{Answer}
 use Rattle.journal.specs.declared.Line.{Line}
-use Rattle.journal.specs.Claims.{TextPoints, Points, handed, Untouched}
+use Rattle.journal.specs.Reader.{lineRows}
+use Rattle.journal.specs.Writer.{writerRows}
+use Rattle.journal.specs.Claims.{TextPoints, Points, TextMarks, Marks, handed, Untouched}
 use Rattle.journal.specs.Promise.{verdictOf, readingOf}
 
 -- ---- a frame, with a frame buffer of `size` bytes
@@ -46,16 +49,19 @@ pub data FrameAnswer (key : List ℕ) (size : ℕ) (f : List ℕ) : Verdict → 
 
 pub data TextAnswer (key : List ℕ) (size : ℕ) (text : List ℕ) : Verdict → Type 0 where
   too-small : size < 353 → TextAnswer key size text (blank 13 0 size)
-  too-long : 353 ≤ size → 706 < length text → TextAnswer key size text (blank 4 0 size)
-  not-digit : {at : ℕ} → 353 ≤ size → length text ≤ 706 → NotHex text at → TextAnswer key size text (blank 5 at size)
-  odd : 353 ≤ size → length text ≤ 706 → HexDigits text → length text % 2 ≡ 1
+  roll-mark : 353 ≤ size → length text ≡ 0 → TextAnswer key size text (blank 16 0 size)
+  too-long : 353 ≤ size → 1 ≤ length text → 706 < length text → TextAnswer key size text (blank 4 0 size)
+  not-digit : {at : ℕ} → 353 ≤ size → 1 ≤ length text → length text ≤ 706 → NotHex text at
+      → TextAnswer key size text (blank 5 at size)
+  odd : 353 ≤ size → 1 ≤ length text → length text ≤ 706 → HexDigits text → length text % 2 ≡ 1
       → TextAnswer key size text (blank 6 0 size)
-  frame : {f : List ℕ} {v : Verdict} → 353 ≤ size → length text ≤ 706 → Bytes f → text ≡ hexOf f
+  frame : {f : List ℕ} {v : Verdict} → 353 ≤ size → 1 ≤ length text → length text ≤ 706 → Bytes f → text ≡ hexOf f
       → FrameAnswer key size f v → TextAnswer key size text v
 
 pub record TextOutcome (text key frame : List ℕ) (r : declared.Verdict) (frame' : List ℕ) : Type 0 where
   pub answer : TextAnswer key (length frame) text (verdictOf r frame')
   pub points : TextPoints text (r .number) (r .at)
+  pub marks : TextMarks text (length frame) (verdictOf r frame')
   pub refused : (r .number ≡ 0 → ⊥) → Blank (length frame) (r .n) (r .m) frame'
 
 -- ---- a place of the journal
@@ -66,6 +72,7 @@ ReadAnswer key j place size = AnsweredAt (TextAnswer key size) j place size
 pub record ReadOutcome (j : List ℕ) (place : ℕ) (key frame : List ℕ) (r : Answer) (frame' : List ℕ) : Type 0 where
   pub answer : ReadAnswer key j place (length frame) (readingOf r frame')
   pub points : Points j place (r .number) (r .next) (r .at)
+  pub marks : Marks j place (length frame) (readingOf r frame')
   pub refused : (r .number ≡ 0 → ⊥) → Blank (length frame) (r .n) (r .m) frame'
 
 -- ---- writing into a line buffer
@@ -97,3 +104,11 @@ pub record WriteOutcome (key nonce ad message line : List ℕ) (r : Line) (line'
   pub answer : WriteAnswer key nonce ad message line (r .number) (r .length) line'
   pub refused : (r .number ≡ 0 → ⊥) → Untouched line r line'
   pub written : r .number ≡ 0 → length nonce ≡ 16 → Placed (sealedLine key nonce ad message) (r .length) line line'
+
+-- ---- the order of the tests: no line fails both of 16 and 4, so that no answer shows which comes first
+
+pub record Order : Type 0 where
+  pub place : (j : List ℕ) (place size : ℕ) → order (placeRows j place size) ≡ 13 ∷ 12 ∷ 14 ∷ 11 ∷ []
+  pub text : (key text : List ℕ) (size : ℕ)
+      → order (lineRows key text size) ≡ 13 ∷ 16 ∷ 4 ∷ 5 ∷ 6 ∷ 7 ∷ 8 ∷ 9 ∷ 10 ∷ 1 ∷ []
+  pub writer : (n m room : ℕ) → order (writerRows n m room) ≡ 8 ∷ 10 ∷ 15 ∷ []

@@ -1,14 +1,16 @@
--- The words of the theorems about lines that are opened, about refusals, and about where an answer points.
-use Prim.Native.Nat.{ℕ, _+_, _-_, _≤_, _<_}
+-- The words of the theorems about lines that are opened, about refusals and roll marks, and about where an answer
+-- points.
+use Prim.Native.Nat.{ℕ, _+_, _-_, _%_, _≤_, _<_}
 use mathlib.Core.Path.{_≡_}
 use mathlib.Core.Logic.{_↔_}
 use mathlib.Core.List.{List, _∷_, _++_}
 use lib.ListN.{length, getD, replicate}
 use Rattle.morus.specs.Seal.{sealTag}
-use Rattle.hex.specs.Claims.{HexDigit, NotHex}
+use Rattle.hex.specs.Claims.{HexDigit, HexDigits, NotHex}
 use Rattle.run.specs.Line.{lineAt}
-use Rattle.run.specs.Read.{Verdict, reading}
+use Rattle.run.specs.Read.{Verdict, Reading, reading}
 use Rattle.run.specs.Run.{Entry}
+use Rattle.run.specs.Answers.{blank}
 use Rattle.journal.specs.declared.Line.{Line}
 use Rattle.journal.specs.Line.{Made}
 
@@ -43,6 +45,33 @@ pub record BadDigit (j : List ℕ) (place next at : ℕ) : Type 0 where
 pub record Points (j : List ℕ) (place number next at : ℕ) : Type 0 where
   pub bad : number ≡ 5 → BadDigit j place next at
   pub other : (number ≡ 5 → ⊥) → at ≡ place
+
+-- ---- roll marks
+
+-- an empty line with its newline
+pub record RollMark (j : List ℕ) (place : ℕ) : Type 0 where
+  pub inside : place < length j
+  pub newline : getD j place 0 ≡ 10
+
+-- the digits of 1 to 32 bytes
+pub record Short (text : List ℕ) : Type 0 where
+  pub digits : HexDigits text
+  pub even : length text % 2 ≡ 0
+  pub least : 2 ≤ length text
+  pub most : length text ≤ 64
+
+-- with room for a frame, of a text: 16 exactly if it is empty, and no more than this is said then; 7 exactly if it is
+-- short
+pub record TextMarks (text : List ℕ) (size : ℕ) (v : Verdict) : Type 0 where
+  pub exactly : (v .number ≡ 16) ↔ ((353 ≤ size) × (length text ≡ 0))
+  pub whole : 353 ≤ size → length text ≡ 0 → v ≡ blank 16 0 size
+  pub short : (v .number ≡ 7) ↔ ((353 ≤ size) × Short text)
+
+-- at a place of a journal: 16 exactly at a roll mark, and no more than this is said then; 7 at none
+pub record Marks (j : List ℕ) (place size : ℕ) (x : Reading) : Type 0 where
+  pub exactly : (x .verdict .number ≡ 16) ↔ ((353 ≤ size) × RollMark j place)
+  pub whole : 353 ≤ size → RollMark j place → x ≡ reading (blank 16 place size) (place + 1)
+  pub not-short : x .verdict .number ≡ 7 → RollMark j place → ⊥
 
 -- ---- what is opened, and what a refusal leaves
 

@@ -4,7 +4,8 @@ use mathlib.Core.Bool.{cond}
 use mathlib.Core.List.{List, [], _∷_, _++_}
 use lib.ListN.{length, replicate}
 use lib.Dec.{leb, eqb}
-use Rattle.answers.specs.Numbers.{done, tagDiffers, lineTooLong, notDigit, odd, frameTooShort, dataTooLong, dataPastFrame, messageTooLong}
+use Rattle.answers.specs.Numbers.{done, tagDiffers, rollMark, lineTooLong, notDigit, odd}
+use Rattle.answers.specs.Numbers.{frameTooShort, dataTooLong, dataPastFrame, messageTooLong}
 use Rattle.answers.specs.Sizes.{fill, fixed, mostData, mostMessage, mostDigits}
 use Rattle.answers.specs.Rows.{Row, _else_, firstFailing}
 use Rattle.morus.specs.Seal.{unseal, accepts}
@@ -24,7 +25,8 @@ opened n m size front =
 
 unfoldable pub textRows : (text : List ℕ) → List Row
 textRows text =
-    (leb (length text) mostDigits else lineTooLong)
+    (leb 1 (length text) else rollMark)
+    ∷ (leb (length text) mostDigits else lineTooLong)
     ∷ (allDigits text else notDigit)
     ∷ (eqb (length text % 2) 0 else odd)
     ∷ []

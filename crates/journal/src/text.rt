@@ -15,6 +15,10 @@ pub fn read_text(text: &[u8], key: Key, frame: &mut [u8]) -> Verdict
     if frame.len() < sizes::MOST_FRAME {
         return refuse(numbers::BUFFER_TOO_SMALL, 0, frame);
     }
+    // An empty line is the log roller's, and no damage.
+    if text.len() < 1 {
+        return refuse(numbers::ROLL_MARK, 0, frame);
+    }
     if sizes::MOST_DIGITS < text.len() {
         return refuse(numbers::LINE_TOO_LONG, 0, frame);
     }

@@ -37,7 +37,7 @@ pub record Examples : Type 0 where
   -- a newline, `0g`, a newline, `abc`, under any key
   pub seven-bytes : (key : List ℕ) → length key ≡ 16 → Bytes key
       → listing (hexOf key ++ 10 ∷ 10 ∷ 48 ∷ 103 ∷ 10 ∷ 97 ∷ 98 ∷ 99 ∷ [])
-      ≡ 48 ∷ 32 ∷ 55 ∷ 32 ∷ 48 ∷ 32 ∷ 48 ∷ 32 ∷ 48 ∷ 10
+      ≡ 48 ∷ 32 ∷ 49 ∷ 54 ∷ 32 ∷ 48 ∷ 32 ∷ 48 ∷ 32 ∷ 48 ∷ 10
       ∷ 49 ∷ 32 ∷ 53 ∷ 32 ∷ 48 ∷ 32 ∷ 48 ∷ 32 ∷ 50 ∷ 10
       ∷ 52 ∷ 32 ∷ 49 ∷ 49 ∷ 32 ∷ 48 ∷ 32 ∷ 48 ∷ 32 ∷ 52 ∷ 10
       ∷ 55 ∷ 32 ∷ 49 ∷ 52 ∷ 32 ∷ 48 ∷ 32 ∷ 48 ∷ 32 ∷ 55 ∷ 10 ∷ []
