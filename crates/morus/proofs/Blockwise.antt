@@ -136,11 +136,11 @@ module _ (s : State) (b : List ℕ) {p : List ℕ} (ep : p ≡ padded 32 b) wher
   unfolding opening
   opened-state h es = rw (es, whole-out h)
 
--- a block's plaintext has 32 bytes
-pub opened-length : (s : State) (b : List ℕ) {p d : List ℕ} → p ≡ padded 32 b → d ≡ xorBytes p (stream s)
+-- what comes out of a block has 32 bytes
+pub out-length : (s : State) (b : List ℕ) {p d : List ℕ} → p ≡ padded 32 b → d ≡ xorBytes p (stream s)
     → 32 ≡ length d
 unfolding padded
-opened-length s b ep ed = rw (ed, ep, length-xor, length-stream)
+out-length s b ep ed = rw (ed, ep, length-xor, length-stream)
 
 -- the last part opened
 part-bytes : (s : State) (b : List ℕ) {d : List ℕ} → length b ≤ 32 → d ≡ padded 32 (xorBytes b (stream s)) → take (length b) d ≡ xorBytes b (stream s)

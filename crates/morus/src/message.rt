@@ -12,33 +12,33 @@ ghost use Rattle.state.specs.Tag.{tag};
 ghost use Rattle.morus.specs.Blocks.{covered, absorbed, uncovered, reabsorbed};
 ghost use Rattle.morus.specs.Seal.{lengths};
 
-// Takes data into the state, through `enc` as the Rust does: what it writes is dropped.
+// Takes data into the state, by the update alone: nobody reads what `enc` would write.
 pub(crate) fn absorb(s: State, ad: &[u8]) -> State
     ensures { λ r. ⌜ r ≡ absorbed s (now (ad .entry)) ⌝ }
 {
     let mut st = s;
-    let mut dst = [0u8; 32];
     let mut i: usize = 0;
     while 32 <= ad.len() - i {
-        st = st.enc(&mut dst, block(ad, i));
+        let whole = block(ad, i);
+        st = st.update(Lane::from_bytes(&whole));
         i += 32;
     }
     if i < ad.len() {
-        return st.enc(&mut dst, block(ad, i));
+        let part = block(ad, i);
+        return st.update(Lane::from_bytes(&part));
     }
     st
 }
 
-// The block `b` over the bytes of `m` from byte `i` on, as far as `m` goes. By value: a sealed block then waits in
-// memory while the state is updated.
+// The block `b`, by value as `masked` gives it, over the bytes of `m` from byte `i` on, as far as `m` goes.
 fn store(m: &mut [u8], i: usize, b: [u8; 32])
     ensures { λ _. ⌜ now (m .exit) ≡ paste (now (m .entry)) i b (min (length (now (m .entry)) - i) 32) ⌝ }
 {
     copy(m, i, &b);
 }
 
-// Seals the message in place, and gives the state after it. A whole block is what `enc` does, written out: the back
-// end would call `enc`, and hand the state over in memory.
+// Seals the message in place, and gives the state after it. The last part is what `enc` does, in its two steps: `enc`
+// has one place then, the loop, and the back end takes it in there.
 pub(crate) fn cover(s: State, mc: &mut [u8]) -> State
     ensures { λ r. ⌜ (r ≡ absorbed s (now (mc .entry))) × (now (mc .exit) ≡ covered s (now (mc .entry))) ⌝ }
 {
@@ -46,16 +46,15 @@ pub(crate) fn cover(s: State, mc: &mut [u8]) -> State
     let mut i: usize = 0;
     while 32 <= mc.len() - i {
         let src = block(mc, i);
-        let sealed = st.masked(src);
-        st = st.update(Lane::from_bytes(&src));
-        store(mc, i, sealed);
+        let mut sealed = [0u8; 32];
+        st = st.enc(&mut sealed, src);
+        copy(mc, i, &sealed);
         i += 32;
     }
     if i < mc.len() {
-        let mut part = [0u8; 32];
-        let end = st.enc(&mut part, block(mc, i));
-        store(mc, i, part);
-        return end;
+        let src = block(mc, i);
+        store(mc, i, st.masked(src));
+        return st.update(Lane::from_bytes(&src));
     }
     st
 }

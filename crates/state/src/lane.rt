@@ -3,6 +3,7 @@ use buffers::little::put;
 use buffers::little::word_at;
 ghost use mathlib.Core.Path.{_≡_};
 ghost use Prim.Native.Nat.{_<_};
+ghost use lib.Bits.{bitAnd, bitXor};
 ghost use Rattle.state.specs.Lane.{turn, word, lane4, laneOf, laneBytes, _⊕_, _&_, turned, moved};
 
 pub struct Lane {
@@ -22,6 +23,14 @@ fn rotate_left(x: u64, k: u32) -> u64
     ensures { λ r. ⌜ r ≡ turn k x ⌝ }
 {
     x << k | x >> (64 - k)
+}
+
+// What a step does to a word: the xor of `a`, `b` and `c & d`, turned left by `k`.
+fn mix_word(k: u32, a: u64, b: u64, c: u64, d: u64) -> u64
+    requires { ⌜ (0 < k) × (k < 64) ⌝ }
+    ensures { λ r. ⌜ r ≡ turn k (bitXor (bitXor a b) (bitAnd c d)) ⌝ }
+{
+    rotate_left(a ^ b ^ (c & d), k)
 }
 
 impl Lane {
@@ -88,22 +97,6 @@ impl Lane {
         }
     }
 
-    // Each word turned left by `k` bits.
-    fn turn(self, k: u32) -> Lane
-        requires { ⌜ (0 < k) × (k < 64) ⌝ }
-        ensures { λ r. ⌜ r ≡ turned k self ⌝ }
-    {
-        let x = self.words();
-        Lane {
-            l: [
-                rotate_left(x.w0, k),
-                rotate_left(x.w1, k),
-                rotate_left(x.w2, k),
-                rotate_left(x.w3, k),
-            ],
-        }
-    }
-
     // Moved by one, two or three places: word i goes to place i + 1, i + 2 or i + 3 modulo 4.
     pub(crate) fn move1(self) -> Lane
         ensures { λ r. ⌜ r ≡ moved 1 self ⌝ }
@@ -132,11 +125,22 @@ impl Lane {
         }
     }
 
-    // What a step does to a lane: the xor of `self`, `b` and `c & d`, turned left by `k`.
+    // What a step does to a lane: the xor of `self`, `b` and `c & d`, turned left by `k`. The order of the words is for
+    // the back end: docs/SPEED.md has what it makes of others.
     pub(crate) fn mix(self, k: u32, b: Lane, c: Lane, d: Lane) -> Lane
         requires { ⌜ (0 < k) × (k < 64) ⌝ }
         ensures { λ r. ⌜ r ≡ turned k (self ⊕ b ⊕ (c & d)) ⌝ }
     {
-        self.xor(b).xor(c.and(d)).turn(k)
+        let x = self.words();
+        let y = b.words();
+        let z = c.words();
+        let w = d.words();
+        let t2 = mix_word(k, x.w2, y.w2, z.w2, w.w2);
+        let t1 = mix_word(k, x.w1, y.w1, z.w1, w.w1);
+        let t0 = mix_word(k, x.w0, y.w0, z.w0, w.w0);
+        let t3 = mix_word(k, x.w3, y.w3, z.w3, w.w3);
+        Lane {
+            l: [t0, t1, t2, t3],
+        }
     }
 }

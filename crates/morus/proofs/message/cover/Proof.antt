@@ -4,7 +4,7 @@ use Prim.Native.Nat.{_-_}
 use native.Mathlib.Omega.{arith}
 use lib.ListN.{length}
 use Rattle.state.specs.Block.{sealing}
-use Rattle.morus.proofs.Blockwise.{Going, cover-on, gone}
+use Rattle.morus.proofs.Blockwise.{Going, out-length, cover-on, gone}
 use borrow.Author.Needs.{needs}
 use Rattle.morus.proofs.message.cover.Statement.{statement}
 use Rattle.morus.proofs.message.cover.Tie as tie
@@ -19,28 +19,34 @@ loop-holds : tie.Need-loop-holds Inv-loop μ-loop
 loop-holds c =
     record { within = omega arith; same = refl; bytes = refl; state = refl }
 
+slice-aggregate-copy : tie.Need-slice-aggregate-copy Inv-loop μ-loop
+slice-aggregate-copy c =
+    let e : tie.After-enc Inv-loop μ-loop = c .before .before in
+    out-length _ _ (e .before .before .block .ensures) (e .enc .ensures .1)
+
 loop-again : tie.Need-loop-again Inv-loop μ-loop
-unfolding sealing
 loop-again c =
-    let w : tie.After-store Inv-loop μ-loop = c .before .before in
-    let u : tie.After-update Inv-loop μ-loop = w .before .before in
-    let f : tie.After-from-bytes Inv-loop μ-loop = u .before in
-    let b : tie.After-block Inv-loop μ-loop = f .before .before .before in
-    cover-on (b .before .before .before .loop .inv) (omega arith) (omega arith) (b .block .ensures)
-    (rw (u .update .ensures, f .from-bytes .ensures), f .before .before .masked .ensures) (w .store .ensures)
+    let w : tie.After-copy Inv-loop μ-loop = c .before .before in
+    let e : tie.After-enc Inv-loop μ-loop = w .before .before .before in
+    let b : tie.After-block Inv-loop μ-loop = e .before .before in
+    cover-on (b .before .before .before .loop .inv) (omega arith) (omega arith) (b .block .ensures) (e .enc .ensures)
+    (rw (← slice-aggregate-copy (w .before)) at (w .copy .ensures))
 
 returns : tie.Need-returns Inv-loop μ-loop
+unfolding sealing
 returns c =
-    let e : tie.After-enc Inv-loop μ-loop = c .before .before .before .before in
-    let t : tie.Then1 Inv-loop μ-loop = e .before .before .before .before in
+    let w : tie.After-store Inv-loop μ-loop = c .before .before .before .before .before in
+    let b : tie.After-block2 Inv-loop μ-loop = w .before .before .before in
+    let t : tie.Then1 Inv-loop μ-loop = b .before .before in
     let l : tie.At-loop Inv-loop μ-loop = t .before .before in
     gone
-    (cover-on {n = length (l .loop .mc) - l .loop .i} (l .loop .inv) (t .if1 .taken) (omega arith) (e .before .block2 .ensures) (e .enc .ensures) (c .before .before .store2 .ensures))
+    (cover-on {n = length (l .loop .mc) - l .loop .i} (l .loop .inv) (omega arith) (omega arith) (b .block2 .ensures)
+    (rw (c .update .ensures, c .before .from-bytes .ensures), w .before .masked .ensures) (w .store .ensures))
     (omega arith)
 
 returns-2 : tie.Need-returns-2 Inv-loop μ-loop
 returns-2 c =
-    gone (c .before .before .loop .inv) (c .if1 .left)
+    gone (c .before .before .loop .inv) (omega arith)
 
 pub cover-spec : {M : Type 1} → statement M
 cover-spec =
@@ -52,12 +58,13 @@ cover-spec =
     (λ c. search needs)
     (λ c κs. search needs)
     (λ c κs. search needs)
-    (λ c κs. search needs)
-    (λ c κs. search needs)
+    slice-aggregate-copy
     (λ c κs. search needs)
     (λ c. search needs)
     (λ c. search needs)
     loop-again
+    (λ c κs. search needs)
+    (λ c κs. search needs)
     (λ c κs. search needs)
     (λ c κs. search needs)
     (λ c κs. search needs)

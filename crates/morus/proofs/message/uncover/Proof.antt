@@ -5,7 +5,7 @@ use native.Mathlib.Omega.{arith}
 use lib.ListN.{length, drop, length-drop}
 use lib.Seq.{take-all}
 use Rattle.state.specs.Block.{opening}
-use Rattle.morus.proofs.Blockwise.{Going, opened-length, uncover-on, uncover-end, gone}
+use Rattle.morus.proofs.Blockwise.{Going, out-length, uncover-on, uncover-end, gone}
 use borrow.Author.Needs.{needs}
 use Rattle.morus.proofs.message.uncover.Statement.{statement}
 use Rattle.morus.proofs.message.uncover.Tie as tie
@@ -31,7 +31,7 @@ loop-again c =
 slice-aggregate-copy : tie.Need-slice-aggregate-copy Inv-loop μ-loop
 slice-aggregate-copy c =
     let d : tie.After-dec Inv-loop μ-loop = c .before .before in
-    opened-length _ _ (d .before .block .ensures) (d .dec .ensures .1)
+    out-length _ _ (d .before .block .ensures) (d .dec .ensures .1)
 
 returns : tie.Need-returns Inv-loop μ-loop
 returns c =
