@@ -1,5 +1,5 @@
 -- Sealing in three rules over the steps, for data and message of any length: what is bent in code and definition
--- alike for lengths that no example has is refused here. By the number of blocks, the message's and then the data's.
+-- alike for lengths that no example has is refused here. One induction over blocks, for the message and for the data.
 use mathlib.Core.Path.{_≡_, refl}
 use mathlib.Core.List.{List, [], _∷_, _++_}
 use Prim.Native.Nat.{ℕ, zero, suc, _*_, _≤_, _<_}
@@ -23,43 +23,41 @@ pub data Seals : (s : State) (d m c : List ℕ) (e : State) → Type 0 where
       → Seals s [] m (xorBytes m (stream s) ++ c) e
   ad : {s e : State} {d m c : List ℕ} → 0 < length d → Seals (update s (laneOf d)) (drop 32 d) m c e → Seals s d m c e
 
--- What the definitions give: of a message, once what is behind its first block is given
-abbrev Text : (s : State) (m : List ℕ) → Type 0
-Text s m = Seals s [] m (covered s m) (absorbed s m)
+-- What holds of nothing, and of bytes once it holds behind their first block, holds of all bytes.
+module _
+    (P : State → List ℕ → Type 0)
+    (none : (s : State) → P s [])
+    (on : (s : State) (b : List ℕ) → 0 < length b → P (sealing s b) (drop 32 b) → P s b)
+  where
+    empty : (s : State) (b : List ℕ) → length b ≡ 0 → P s b
+    empty s [] h = none s
+    empty s (a ∷ b) h = absurd (omega arith)
 
-text-none : (s : State) (m : List ℕ) → length m ≡ 0 → Text s m
-text-none s [] h = rw (bytes-none sealing s [] refl, state-none sealing s [] refl) Seals.nothing
-text-none s (a ∷ m) h = absurd (omega arith)
+    step : (s : State) (b : List ℕ) → P (sealing s b) (drop 32 b) → P s b
+    step s [] g = none s
+    step s (a ∷ b) g = on s (a ∷ b) (omega arith) g
 
-text-on : (s : State) (m : List ℕ) → Text (sealing s m) (drop 32 m) → Text s m
+    within : (n : ℕ) (s : State) (b : List ℕ) → length b ≤ 32 * n → P s b
+    within zero s b h = empty s b (omega arith)
+    within (suc n) s b h = step s b (within n (sealing s b) (drop 32 b) (rw length-drop (omega arith)))
+
+    by-blocks : (s : State) (b : List ℕ) → P s b
+    by-blocks s b = within (length b) s b (omega arith)
+
+-- what the definitions give of a message, and of data and a message
+seals-text : (s : State) (m : List ℕ) → Seals s [] m (covered s m) (absorbed s m)
 unfolding sealing
-text-on s [] g = text-none s [] refl
-text-on s (a ∷ m) g =
-    let h : 0 < length (a ∷ m) = omega arith in
-    rw (bytes-step sealing s (a ∷ m) h, state-step sealing s (a ∷ m) h) (Seals.text {m = a ∷ m} h g)
+seals-text =
+    by-blocks (λ s m. Seals s [] m (covered s m) (absorbed s m))
+    (λ s. rw (bytes-none sealing s [] refl, state-none sealing s [] refl) Seals.nothing)
+    (λ s m h g. rw (bytes-step sealing s m h, state-step sealing s m h) (Seals.text {m = m} h g))
 
-text-all : (n : ℕ) (s : State) (m : List ℕ) → length m ≤ 32 * n → Text s m
-text-all zero s m h = text-none s m (omega arith)
-text-all (suc n) s m h = text-on s m (text-all n (sealing s m) (drop 32 m) (rw length-drop (omega arith)))
-
--- and of data and a message, once what is behind the data's first block is given
-abbrev Both : (s : State) (d m : List ℕ) → Type 0
-Both s d m = Seals s d m (covered (absorbed s d) m) (absorbed (absorbed s d) m)
-
-both-none : (s : State) (d m : List ℕ) → length d ≡ 0 → Both s d m
-both-none s [] m h = rw (state-none sealing s [] refl) (text-all (length m) s m (omega arith))
-both-none s (a ∷ d) m h = absurd (omega arith)
-
-both-on : (s : State) (d m : List ℕ) → Both (sealing s d) (drop 32 d) m → Both s d m
+seals : (m : List ℕ) (s : State) (d : List ℕ) → Seals s d m (covered (absorbed s d) m) (absorbed (absorbed s d) m)
 unfolding sealing
-both-on s [] m g = both-none s [] m refl
-both-on s (a ∷ d) m g =
-    let h : 0 < length (a ∷ d) = omega arith in
-    rw (state-step sealing s (a ∷ d) h) (Seals.ad {d = a ∷ d} h g)
-
-both-all : (n : ℕ) (s : State) (d m : List ℕ) → length d ≤ 32 * n → Both s d m
-both-all zero s d m h = both-none s d m (omega arith)
-both-all (suc n) s d m h = both-on s d m (both-all n (sealing s d) (drop 32 d) m (rw length-drop (omega arith)))
+seals m =
+    by-blocks (λ s d. Seals s d m (covered (absorbed s d) m) (absorbed (absorbed s d) m))
+    (λ s. rw (state-none sealing s [] refl) (seals-text s m))
+    (λ s d h g. rw (state-step sealing s d h) (Seals.ad {d = d} h g))
 
 pub record Ruled (key nonce d m : List ℕ) : Type 0 where
   pub end : State
@@ -71,6 +69,6 @@ unfolding seal sealTag sealFrom sealTagFrom
 ruled key nonce d m =
     record {
       end = absorbed (absorbed (start key nonce) d) m;
-      ciphertext = both-all (length d) (start key nonce) d m (omega arith);
+      ciphertext = seals m (start key nonce) d;
       own = refl;
     }
