@@ -1,7 +1,8 @@
-/* Votrikany from C: seals and opens a message, writes two lines of a journal with a roll mark between them, and reads
- * them back, whole and damaged.
+/* Votrikany from C: seals and opens a message, writes two readings into a journal with a roll mark between them, and
+ * reads and decodes them, whole and damaged.
  *   cc -Iinclude examples/library.c target/staticlib/libexport.a
  */
+#include <inttypes.h>
 #include <stdio.h>
 #include <string.h>
 #include "votrikany.h"
@@ -38,13 +39,39 @@ static void seal_and_open(void)
     show("left behind", again, sizeof again);
 }
 
-/* Adds a line at the journal's end and gives the new end, or the old one where the line was refused. */
-static size_t add_line(uint8_t *journal, size_t end, size_t room, uint8_t count, const char *message)
+static void put_low_first(uint8_t *to, size_t bytes, uint64_t number)
+{
+    for (size_t i = 0; i < bytes; i++)
+        to[i] = (uint8_t)(number >> 8 * i);
+}
+
+/* The message of a reading: all three figures are of one instant. */
+static void pack(uint8_t message[VOTRIKANY_READING_SIZE], uint32_t tick, uint64_t resident, uint64_t active)
+{
+    put_low_first(message, 4, tick);
+    put_low_first(message + 4, 8, resident);
+    put_low_first(message + 12, 8, active);
+}
+
+static void decode(const uint8_t *message, size_t length)
+{
+    double ratio;
+    uint32_t tick;
+    uint8_t number = votrikany_decode(message, length, &ratio, &tick);
+    if (number == VOTRIKANY_DONE)
+        printf("ratio %.6f at tick %" PRIu32, ratio, tick);
+    else
+        printf("no ratio, %d: left behind %.1e and %" PRIx32, number, ratio, tick);
+}
+
+/* Adds a reading's line at the journal's end and gives the new end, or the old one where the line was refused. */
+static size_t add_line(uint8_t *journal, size_t end, size_t room, uint8_t count, const uint8_t *message)
 {
     uint8_t nonce[16];
     size_t size;
     nonce_for(count, nonce);
-    uint8_t number = votrikany_write_line(key, nonce, ad, sizeof ad, (const uint8_t *)message, strlen(message), journal + end, room - end, &size);
+    uint8_t number = votrikany_write_line(key, nonce, ad, sizeof ad, message, VOTRIKANY_READING_SIZE, journal + end,
+                                          room - end, &size);
     printf("write %d, %zu bytes\n", number, size);
     return end + size;
 }
@@ -56,8 +83,10 @@ static void read_all(const uint8_t *journal, size_t length)
     for (;;) {
         uint8_t number = votrikany_read_line(journal, length, place, key, frame, sizeof frame, &next, &n, &m, &at);
         printf("%zu %d %zu %zu %zu", place, number, n, m, at);
-        if (number == VOTRIKANY_DONE)
-            printf(" %.*s: %.*s", (int)n, (const char *)frame + VOTRIKANY_DATA_AT, (int)m, (const char *)frame + VOTRIKANY_DATA_AT + n);
+        if (number == VOTRIKANY_DONE) {
+            printf(" %.*s: ", (int)n, (const char *)frame + VOTRIKANY_DATA_AT);
+            decode(frame + VOTRIKANY_DATA_AT + n, m);
+        }
         printf("\n");
         if (number == VOTRIKANY_END)
             return;
@@ -67,16 +96,23 @@ static void read_all(const uint8_t *journal, size_t length)
 
 int main(void)
 {
-    uint8_t journal[3 * VOTRIKANY_LONGEST_LINE];
+    uint8_t journal[3 * VOTRIKANY_LONGEST_LINE], message[VOTRIKANY_READING_SIZE];
+    const uint32_t early = 0xffffffff, late = 4; /* five ticks apart: they go round */
     size_t end = 0;
     seal_and_open();
-    end = add_line(journal, end, sizeof journal, 2, "resident 4096 KB");
+    pack(message, early, 50331648, 4194304);
+    end = add_line(journal, end, sizeof journal, 2, message);
     journal[end++] = '\n'; /* as the log roller does: an empty line is a roll mark, and no damage */
-    end = add_line(journal, end, sizeof journal, 3, "active 1024 KB");
+    pack(message, late, 33619968, 1048576);
+    end = add_line(journal, end, sizeof journal, 3, message);
     read_all(journal, end);
+    printf("tick %" PRIu32 " is newer than %" PRIu32 ": %d\n", late, early, votrikany_newer(late, early));
+    pack(message, 5, 1048576, 33619968); /* as of two instants: more active than resident */
+    decode(message, sizeof message);
+    printf("\n");
     journal[10] = journal[10] == '0' ? '1' : '0'; /* another digit: the tag differs */
     read_all(journal, end);
-    journal[120] = 'g'; /* no digit: the answer says where */
+    journal[130] = 'g'; /* no digit: the answer says where */
     read_all(journal, end);
     return 0;
 }

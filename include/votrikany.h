@@ -1,25 +1,30 @@
-/* Votrikany for C: sealing and opening with MORUS-1280-128, and the line journal.
+/* Votrikany for C: sealing and opening with MORUS-1280-128, the line journal, and the readings in it.
  *
  * The functions are those of the crate `export`, proved to keep its specs/Promise.antt; that this file says the same in
  * words is read, and tested. Build the library with `rt staticlib export`, which writes target/staticlib/libexport.a:
  * x86-64 Linux code that wants nothing but `memcpy` and `memset` of the C library.
  *
- * Numbers given back. Each function returns one of these; what it leaves is said with the function.
- *    0  done, opened                       8  over 64 bytes of data
- *    1  the tag differs                    9  the frame ends before its data does
- *    2  2^61 bytes or more                10  over 256 bytes of message
- *    3  the second buffer's length is     11  no newline up to the journal's end
- *       not the text's                    12  the place is beyond the journal's end
- *    4  over 706 bytes before the newline 13  the frame buffer has under 353 bytes
- *    5  a byte is not 0-9 or a-f          14  the place is the journal's end
- *    6  an odd number of digits           15  the line buffer is shorter than the line
- *    7  1 to 32 frame bytes               16  a roll mark: an empty line, no damage
+ * Numbers given back. Each function but `votrikany_newer` returns one of these; what it leaves is said with it.
+ *    0  done, opened, decoded                10  over 256 bytes of message
+ *    1  the tag differs                      11  no newline up to the journal's end
+ *    2  2^61 bytes or more                   12  the place is beyond the journal's end
+ *    3  the second buffer's length is        13  the frame buffer has under 353 bytes
+ *       not the text's                       14  the place is the journal's end
+ *    4  over 706 bytes before the newline    15  the line buffer is shorter than the line
+ *    5  a byte is not 0-9 or a-f             16  a roll mark: an empty line, no damage
+ *    6  an odd number of digits              17  not 20 bytes: no reading
+ *    7  1 to 32 frame bytes                  18  resident or active is above 2^53
+ *    8  over 64 bytes of data                19  active is above resident
+ *    9  the frame ends before its data does  20  resident is zero
  *
  * What the caller owes. Nothing checks a caller that is not Rattle:
- *  - `key`, `nonce` and `tag` point to 16 bytes each. They, and the pointers to a size_t, are never null.
+ *  - `key`, `nonce` and `tag` point to 16 bytes each. They, and the pointers to a size_t, a double or a uint32_t, are
+ *    never null.
  *  - Any other pointer is to as many bytes as the length behind it says. It may be null where that length is 0, and only there.
  *  - What is written to (each pointer without `const`) overlaps nothing else of the call. What is only read may overlap.
  *  - No other thread writes to any of it during the call, or reads what the call writes.
+ *  - Doubles are rounded to nearest, and nothing traps, as a program starts: `votrikany_decode` divides as the thread
+ *    is set.
  * The functions keep no pointer, allocate nothing and hold no state between calls, so any number of threads may be in them.
  * They always return. What stack they need is measured and not proved: less than 4,096 bytes in every call that
  * tests/library/stack.c makes, with `memcpy` and `memset` linked in.
@@ -29,6 +34,9 @@
 #ifndef VOTRIKANY_H
 #define VOTRIKANY_H
 
+#ifndef __cplusplus
+#include <stdbool.h>
+#endif
 #include <stddef.h>
 #include <stdint.h>
 
@@ -53,7 +61,11 @@ enum {
     VOTRIKANY_BUFFER_TOO_SMALL = 13,
     VOTRIKANY_END = 14,
     VOTRIKANY_LINE_TOO_SMALL = 15,
-    VOTRIKANY_ROLL_MARK = 16
+    VOTRIKANY_ROLL_MARK = 16,
+    VOTRIKANY_NOT_TWENTY = 17,
+    VOTRIKANY_COUNTER_TOO_LARGE = 18,
+    VOTRIKANY_ACTIVE_ABOVE = 19,
+    VOTRIKANY_RESIDENT_ZERO = 20
 };
 
 /* A frame is nonce (16), data count n (1), data (n), message or ciphertext (m), tag (16); a line is a frame in lowercase
@@ -63,7 +75,8 @@ enum {
     VOTRIKANY_MOST_MESSAGE = 256,
     VOTRIKANY_FRAME_SIZE = 353,  /* the least that a frame buffer has */
     VOTRIKANY_LONGEST_LINE = 707,
-    VOTRIKANY_DATA_AT = 17       /* where the data stands in an opened frame; the message stands at 17 + n */
+    VOTRIKANY_DATA_AT = 17,      /* where the data stands in an opened frame; the message stands at 17 + n */
+    VOTRIKANY_READING_SIZE = 20  /* the bytes of a message that is a reading */
 };
 
 /* Seals `text_length` bytes of message at `text` where they stand, bound to the data `ad`, and puts the tag at `tag`.
@@ -123,6 +136,21 @@ uint8_t votrikany_write_line(const uint8_t *key, const uint8_t *nonce, const uin
  */
 uint8_t votrikany_read_line(const uint8_t *journal, size_t journal_length, size_t place, const uint8_t *key,
                             uint8_t *frame, size_t frame_length, size_t *next, size_t *n, size_t *m, size_t *at);
+
+/* Decodes a message that is a reading of the heap at one instant: tick (4 bytes), resident (8) and active (8), each
+ * with its low byte first.
+ *   0  `*ratio` is resident - active over resident, from 0 to 1: two whole numbers, each a double without loss, divided
+ *      once, so its bits are fixed. `*tick` is the tick.
+ *  17  `message_length` is not 20; 18 resident or active is above 2^53; 19 active is above resident; 20 resident is 0
+ *      (in this order): every byte of `*ratio` and of `*tick` is 0xaa. As a double that is about -3.7e-103, below zero,
+ *      which no ratio is; a reading's tick can be 0xaaaaaaaa, so a tick does not say that it is none.
+ */
+uint8_t votrikany_decode(const uint8_t *message, size_t message_length, double *ratio, uint32_t *tick);
+
+/* Says whether tick `a` is newer than tick `b`. Ticks go round at 2^32: `a` is newer if a - b, wrapped, is from 1 to
+ * 2^31 - 1. So no tick is newer than itself, and of two that are exactly 2^31 apart neither is newer.
+ */
+bool votrikany_newer(uint32_t a, uint32_t b);
 
 #ifdef __cplusplus
 }

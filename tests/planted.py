@@ -8,7 +8,9 @@ EDIT = "crates/buffers/must-fail/half_twice.edit"
 EXPORT = "crates/export/src/lib.rt"
 FILL = "crates/buffers/src/filling.rt"
 FIND = "crates/buffers/src/finding.rt"
-HEADER = "use mathlib.Core.List.{List, _++_}\n"
+HEADER = "include/votrikany.h"
+BINDING = "bindings/rust/src/library.rs"
+IMPORT = "use mathlib.Core.List.{List, _++_}\n"
 FAULTS = (
     ("promises", FILL, "    ensures {", "    requires { ⌜ v < 256 ⌝ }\n    ensures {", "fill has a requires"),
     ("promises", FILL, "    ensures {", "    // ensures {", "fill has no ensures"),
@@ -20,15 +22,30 @@ FAULTS = (
      "SealedInPlace (now (nonce .entry)) (now (key .entry))", "the parameters of votrikany_seal_in_place"),
     ("promises", EXPORT, "(now (m .exit)) (now (at .exit))", "(now (at .exit)) (now (m .exit))",
      "the parameters of votrikany_read_line"),
+    ("promises", EXPORT, "(now (journal .entry)) place", "place (now (journal .entry))",
+     "the parameters of votrikany_read_line"),
+    ("promises", EXPORT, "(now (ratio .exit)) (now (tick .exit))", "(now (tick .exit)) (now (ratio .exit))",
+     "the parameters of votrikany_decode"),
+    ("promises", EXPORT, " r (now (ratio .exit))", " r (now (ratio .entry))", "the parameters of votrikany_decode"),
+    ("promises", EXPORT, "Newer a b", "Newer b a", "the parameters of votrikany_newer"),
+    ("promises", EXPORT, "Newer a b", "Newer a a", "the parameters of votrikany_newer"),
+    ("promises", EXPORT, "Newer a b", "Newer a 0", "the parameters of votrikany_newer"),
+    ("declared", HEADER, "double *ratio, uint32_t *tick", "uint32_t *tick, double *ratio", "votrikany_decode is not"),
+    ("declared", HEADER, "double *ratio", "float *ratio", "votrikany_decode is not"),
+    ("declared", HEADER, "size_t *n, size_t *m", "size_t *m, size_t *n", "votrikany_read_line is not"),
+    ("declared", HEADER, "bool votrikany_newer", "uint8_t votrikany_newer", "votrikany_newer is not"),
+    ("declared", BINDING, "tick: *mut u32", "tick: *mut u64", "votrikany_decode is not"),
+    ("declared", BINDING, "newer(a: u32, b: u32) -> bool;", "newer(b: u32, a: u32) -> bool;", "votrikany_newer is not"),
+    ("declared", EXPORT, "tick: &mut u32", "tick: &mut u16", "a type that this test cannot read"),
     ("imports", FILL, "\nghost use Prim", "\nuse crate::copying::copy;\nghost use Prim", "copy is unused"),
     ("imports", FILL, "take, replicate}", "take, drop, replicate}", "drop is unused"),
     ("imports", FILL, "{_-_}", "{_-_, _+_}", "_+_ is unused"),
     ("imports", LINES, "{arith}", "{arith}\nuse lib.Seq.{number}", "number is unused"),  # a field there
-    ("imports", DETERMINED, HEADER, HEADER + "use lib.Seq.{\n  take-all,\n}\n", "take-all is unused"),
-    ("imports", DETERMINED, HEADER, HEADER + "use lib.Seq as seq\n-- seq.x\n", "seq is unused"),
-    ("imports", DETERMINED, HEADER, HEADER + "use lib.Seq.{paste as over}\n", "over is unused"),
+    ("imports", DETERMINED, IMPORT, IMPORT + "use lib.Seq.{\n  take-all,\n}\n", "take-all is unused"),
+    ("imports", DETERMINED, IMPORT, IMPORT + "use lib.Seq as seq\n-- seq.x\n", "seq is unused"),
+    ("imports", DETERMINED, IMPORT, IMPORT + "use lib.Seq.{paste as over}\n", "over is unused"),
     ("imports", DETERMINED, "List, _++_}", "List, _++_, _∷_}", "_∷_ is unused"),
-    ("imports", DETERMINED, HEADER, HEADER + "use lib.Seq {take}\n", "a form that this test cannot read"),
+    ("imports", DETERMINED, IMPORT, IMPORT + "use lib.Seq {take}\n", "a form that this test cannot read"),
     ("old_texts", EDIT, "old: ", "old: no such ", "stands 0 times"),
     ("old_texts", EDIT, "old: half(b, at, 4)", "old: half(b, at", "stands 3 times"),
     ("page", PAGE, "`half_twice`", "`half`", "the edit half_twice is not named"),

@@ -1,6 +1,7 @@
-//! The journal of bindings/rust: what is written is read back, and refusals leave what the header says.
+//! The journal of bindings/rust: what is written is read back and decoded, and refusals leave what the header says.
 use votrikany::journal::{
-    read_line, write_line, Answer, Line, FRAME_SIZE, LONGEST_LINE, ROLL_MARK,
+    read_line, write_line, Answer, Line, Reading, ACTIVE_ABOVE, COUNTER_TOO_LARGE, FRAME_SIZE,
+    LONGEST_LINE, NOT_TWENTY, READING_SIZE, RESIDENT_ZERO, ROLL_MARK,
 };
 
 /// A reading of the line at `place` in a text that ends with it, which is refused with a number and says a place.
@@ -91,6 +92,67 @@ fn roll_marks() {
     assert_eq!((small.number, small.next, small.at), (13, 0, 0));
 }
 
+fn message(tick: u32, resident: u64, active: u64) -> [u8; READING_SIZE] {
+    let mut bytes = [0; READING_SIZE];
+    bytes[..4].copy_from_slice(&tick.to_le_bytes());
+    bytes[4..12].copy_from_slice(&resident.to_le_bytes());
+    bytes[12..].copy_from_slice(&active.to_le_bytes());
+    bytes
+}
+
+/// The reading of the line at `place`, or the number of the line or of its message.
+fn reading_at(journal: &[u8], place: usize, key: &votrikany::Key) -> Result<Reading, u8> {
+    let mut frame = [0; FRAME_SIZE];
+    let answer = read_line(journal, place, key, &mut frame);
+    match answer.number {
+        0 => Reading::decode(answer.message(&frame)),
+        number => Err(number),
+    }
+}
+
+/// What is sealed is decoded, to its bits; a line's number comes before its message's.
+fn readings() {
+    const EXACT: u64 = 1 << 53;
+    let (key, mut line) = ([7; 16], [0; LONGEST_LINE]);
+    for (tick, resident, active, wanted) in [
+        (0x04030201, 3, 2, Ok(0x3fd5555555555555)),
+        (0xfefdfcfb, EXACT, EXACT, Ok(0)),
+        (u32::MAX, EXACT, 0, Ok(0x3ff0000000000000)),
+        (5, EXACT + 1, 0, Err(COUNTER_TOO_LARGE)),
+        (5, EXACT, EXACT + 1, Err(COUNTER_TOO_LARGE)),
+        (5, 0, EXACT + 1, Err(COUNTER_TOO_LARGE)),
+        (5, 2, 3, Err(ACTIVE_ABOVE)),
+        (5, 0, 1, Err(ACTIVE_ABOVE)),
+        (5, 0, 0, Err(RESIDENT_ZERO)),
+    ] {
+        let sent = message(tick, resident, active);
+        let length = write_line(&key, &[9; 16], b"host", &sent, &mut line).length;
+        let got = reading_at(&line[..length], 0, &key).map(|r| (r.ratio.to_bits(), r.tick));
+        assert_eq!(got, wanted.map(|bits| (bits, tick)));
+        assert_eq!(Reading::decode(&sent[..19]), Err(NOT_TWENTY));
+    }
+    assert_eq!(Reading::decode(&[]), Err(NOT_TWENTY));
+    assert_eq!(Reading::decode(&[0xff; 21]), Err(NOT_TWENTY));
+    assert_eq!(reading_at(b"\n", 0, &key), Err(ROLL_MARK));
+}
+
+/// Of each pair of ticks whether the first is newer, and whether the second is.
+fn newer() {
+    const HALF: u32 = 1 << 31;
+    for (a, b, newer, older) in [
+        (7, 7, false, false),
+        (8, 7, true, false),
+        (0, u32::MAX, true, false),
+        (HALF + 6, 7, true, false),
+        (HALF + 7, 7, false, false),
+        (HALF + 8, 7, false, true),
+    ] {
+        let [a, b] = [a, b].map(|tick| Reading::decode(&message(tick, 1, 0)).unwrap());
+        assert_eq!(a.newer_than(&b), newer, "{a:?} {b:?}");
+        assert_eq!(b.newer_than(&a), older, "{a:?} {b:?}");
+    }
+}
+
 fn main() {
     let (key, nonce) = ([7u8; 16], [9u8; 16]);
     let message: Vec<u8> = (0..=255).collect();
@@ -164,8 +226,10 @@ fn main() {
     assert_eq!(small, [0x55; 66]);
     places();
     roll_marks();
+    readings();
+    newer();
     println!(
-        "journal: {} lines written and read back, refusals as the header says",
+        "journal: {} lines written and read back, refusals and readings as the header says",
         lines
     );
 }

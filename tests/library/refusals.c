@@ -1,10 +1,11 @@
-/* Each number of each function, from C: what it answers, and what it leaves in every buffer. */
+/* Each number of each function, from C: what it answers, and what it leaves in every buffer; and the order of ticks. */
 #include <stdio.h>
 #include <string.h>
 #include "votrikany.h"
 
 static const uint8_t key[16] = { 1, 2, 3 }, nonce[16] = { 4, 5, 6 }, zero[16];
 static const size_t far = (size_t)1 << 61; /* a length that is refused before anything behind it is read */
+static const uint64_t exact = (uint64_t)1 << 53; /* the most that a counter may be */
 static int checks, failed;
 
 static void expect(int holds, const char *what)
@@ -195,6 +196,130 @@ static void opened(void)
     expect(next == 3 + size && n == 3 && m == 2 && at == 3, "the next place, n, m and the place given");
 }
 
+/* A message at an odd address, as it can be in an opened frame, with room for a byte more. */
+static uint64_t even[3];
+static uint8_t *const reading = (uint8_t *)even + 1;
+
+static void put_low_first(uint8_t *to, size_t bytes, uint64_t value)
+{
+    for (size_t i = 0; i < bytes; i++)
+        to[i] = (uint8_t)(value >> 8 * i);
+}
+
+static void pack(uint32_t tick, uint64_t resident, uint64_t active)
+{
+    put_low_first(reading, 4, tick);
+    put_low_first(reading + 4, 8, resident);
+    put_low_first(reading + 12, 8, active);
+}
+
+/* The second of three numbers is handed over, so that what stands beside it is seen too. */
+static double ratios[3];
+static uint32_t ticks[3];
+
+static int decode(const uint8_t *message, size_t length, uint8_t number)
+{
+    for (size_t i = 0; i < 3; i++) {
+        ratios[i] = 0.25;
+        ticks[i] = 0x01020304;
+    }
+    uint8_t gave = votrikany_decode(message, length, &ratios[1], &ticks[1]);
+    int kept = ratios[0] == 0.25 && ratios[2] == 0.25 && ticks[0] == 0x01020304 && ticks[2] == 0x01020304;
+    return gave == number && kept;
+}
+
+static void undecoded(const uint8_t *message, size_t length, uint8_t number, const char *what)
+{
+    expect(decode(message, length, number), what);
+    expect(all((const uint8_t *)&ratios[1], sizeof ratios[1], 0xaa), "every byte of the ratio is 0xaa");
+    expect(all((const uint8_t *)&ticks[1], sizeof ticks[1], 0xaa), "every byte of the tick is 0xaa");
+    expect(ratios[1] < 0, "what is left is no ratio");
+}
+
+static void no_ratio(uint64_t resident, uint64_t active, uint8_t number, const char *what)
+{
+    pack(0x55667788, resident, active);
+    undecoded(reading, VOTRIKANY_READING_SIZE, number, what);
+}
+
+static void decoded(uint32_t tick, uint64_t resident, uint64_t active, uint64_t bits, const char *what)
+{
+    uint64_t got;
+    pack(tick, resident, active);
+    expect(decode(reading, VOTRIKANY_READING_SIZE, VOTRIKANY_DONE), what);
+    memcpy(&got, &ratios[1], sizeof got);
+    expect(got == bits, "the ratio's bits");
+    expect(ticks[1] == tick, "the tick");
+}
+
+static void readings_refused(void)
+{
+    undecoded(NULL, 0, VOTRIKANY_NOT_TWENTY, "no message at null");
+    pack(5, 3, 2);
+    undecoded(reading, 0, VOTRIKANY_NOT_TWENTY, "0 bytes");
+    undecoded(reading, 19, VOTRIKANY_NOT_TWENTY, "19 bytes");
+    undecoded(reading, 21, VOTRIKANY_NOT_TWENTY, "21 bytes");
+    undecoded(reading, ((size_t)1 << 32) + 20, VOTRIKANY_NOT_TWENTY, "2^32 + 20 bytes");
+    pack(5, exact + 1, 0);
+    undecoded(reading, 21, VOTRIKANY_NOT_TWENTY, "17 comes before 18");
+    pack(5, 2, 3);
+    undecoded(reading, 21, VOTRIKANY_NOT_TWENTY, "17 comes before 19");
+    pack(5, 0, 0);
+    undecoded(reading, 19, VOTRIKANY_NOT_TWENTY, "17 comes before 20");
+
+    no_ratio(exact + 1, 0, VOTRIKANY_COUNTER_TOO_LARGE, "resident 2^53 + 1");
+    no_ratio(exact + 1, exact, VOTRIKANY_COUNTER_TOO_LARGE, "resident 2^53 + 1, active 2^53");
+    no_ratio(exact + 1, exact + 1, VOTRIKANY_COUNTER_TOO_LARGE, "both 2^53 + 1");
+    no_ratio((uint64_t)1 << 63, 1, VOTRIKANY_COUNTER_TOO_LARGE, "resident 2^63");
+    no_ratio(UINT64_MAX, UINT64_MAX, VOTRIKANY_COUNTER_TOO_LARGE, "both all ones");
+    no_ratio(exact, exact + 1, VOTRIKANY_COUNTER_TOO_LARGE, "active 2^53 + 1: 18 comes before 19");
+    no_ratio(1, (uint64_t)1 << 63, VOTRIKANY_COUNTER_TOO_LARGE, "active 2^63: 18 comes before 19");
+    no_ratio(0, exact + 1, VOTRIKANY_COUNTER_TOO_LARGE, "18 comes before 20");
+
+    no_ratio(2, 3, VOTRIKANY_ACTIVE_ABOVE, "active one above resident");
+    no_ratio(exact - 1, exact, VOTRIKANY_ACTIVE_ABOVE, "active 2^53, resident one less");
+    no_ratio(0, 1, VOTRIKANY_ACTIVE_ABOVE, "19 comes before 20");
+    no_ratio(0, exact, VOTRIKANY_ACTIVE_ABOVE, "19 comes before 20, active 2^53");
+    no_ratio(0, 0, VOTRIKANY_RESIDENT_ZERO, "nothing resident");
+}
+
+static void readings_decoded(void)
+{
+    decoded(0, 1, 1, 0, "all active: no sign");
+    decoded(0xffffffff, exact, exact, 0, "all of 2^53 active");
+    decoded(0x04030201, 1, 0, 0x3ff0000000000000, "nothing active");
+    decoded(0xfefdfcfb, exact, 0, 0x3ff0000000000000, "nothing of 2^53 active");
+    decoded(0x80000000, 3, 2, 0x3fd5555555555555, "a third, and not 1 less two thirds");
+    decoded(0x7fffffff, 5, 2, 0x3fe3333333333333, "three fifths, and not 3 times a fifth");
+    decoded(0x00007080, 50331648, 4194304, 0x3fed555555555555, "the line of docs/FORMAT.md");
+    decoded(0xaaaaaaaa, exact, exact - 1, 0x3ca0000000000000, "the least above 0");
+    decoded(0x01000000, exact, 1, 0x3fefffffffffffff, "the most below 1");
+    decoded(0x00000001, 0x1f0e0d0c0b0a09, 0x08070605040302, 0x3fe7ba6f43cc746c, "bytes that all differ");
+}
+
+/* From wherever a tick stands on its way round: how far the other is ahead, and whether it is newer. */
+static void newer(void)
+{
+    static const uint32_t from[] = { 0, 1, 0x01020304, 0x7fffffff, 0x80000000, 0xffffffff };
+    static const struct {
+        uint32_t ahead;
+        bool newer;
+        const char *what;
+    } rows[] = {
+        { 0, false, "no tick is newer than itself" },
+        { 1, true, "one ahead" },
+        { 0x7fffffff, true, "2^31 - 1 ahead" },
+        { 0x80000000, false, "2^31 ahead: neither" },
+        { 0x80000001, false, "2^31 + 1 ahead: behind" },
+        { 0xffffffff, false, "one behind" },
+    };
+    for (size_t i = 0; i < sizeof from / sizeof *from; i++)
+        for (size_t k = 0; k < sizeof rows / sizeof *rows; k++)
+            expect(votrikany_newer(from[i] + rows[k].ahead, from[i]) == rows[k].newer, rows[k].what);
+    expect(votrikany_newer(4, 0xffffffff) && !votrikany_newer(0xffffffff, 4), "round the end");
+    expect(votrikany_newer(0, 0x80000001) && !votrikany_newer(0x80000001, 0), "half the way round and one more");
+}
+
 int main(void)
 {
     cipher();
@@ -204,6 +329,9 @@ int main(void)
     bad_digits();
     every_bad_byte();
     opened();
+    readings_refused();
+    readings_decoded();
+    newer();
     if (!failed)
         printf("refusals: %d checks hold\n", checks);
     return failed;

@@ -1,4 +1,4 @@
-/* How much stack the six functions need. Each call runs on a stack of its own that was painted before, twice, in two
+/* How much stack the eight functions need. Each call runs on a stack of its own that was painted before, twice, in two
  * colours: the bytes from the lowest one that has lost its paint up are counted, with what starting the call takes. */
 #define _XOPEN_SOURCE 700
 #include <stdio.h>
@@ -11,6 +11,8 @@ enum { ROOM = 65536, LONG = 5000 };
 static const uint8_t key[16] = { 1, 2, 3 }, nonce[16] = { 4, 5, 6 };
 static uint8_t data[LONG], text[LONG], out[LONG], tag[16], line[800], frame[400], stack[ROOM];
 static size_t data_length, text_length, out_length, line_length, place, next, n, m, at;
+static double ratio;
+static uint32_t tick;
 static uint8_t number;
 static size_t calls, most;
 static int failed;
@@ -43,6 +45,16 @@ static void write_line(void)
 static void read_line(void)
 {
     number = votrikany_read_line(line, line_length, place, key, frame, sizeof frame, &next, &n, &m, &at);
+}
+
+static void decode(void)
+{
+    number = votrikany_decode(text, text_length, &ratio, &tick);
+}
+
+static void newer(void)
+{
+    number = votrikany_newer(tick, 0);
 }
 
 static size_t used(void (*call)(void), uint8_t paint)
@@ -143,6 +155,25 @@ static void journal_refused(void)
     measure(write_line, VOTRIKANY_DATA_TOO_LONG, "65 bytes of data");
 }
 
+/* A reading of resident 3 and active 2, which is then bent. */
+static void readings(void)
+{
+    memset(text, 0, VOTRIKANY_READING_SIZE);
+    text_length = VOTRIKANY_READING_SIZE;
+    text[0] = 1, text[4] = 3, text[12] = 2;
+    measure(decode, VOTRIKANY_DONE, "decode");
+    measure(newer, true, "newer");
+    text[12] = 4;
+    measure(decode, VOTRIKANY_ACTIVE_ABOVE, "active above resident");
+    text[4] = text[12] = 0;
+    measure(decode, VOTRIKANY_RESIDENT_ZERO, "resident zero");
+    text[11] = 1;
+    measure(decode, VOTRIKANY_COUNTER_TOO_LARGE, "resident 2^56");
+    text_length--;
+    measure(decode, VOTRIKANY_NOT_TWENTY, "19 bytes");
+    measure(newer, false, "not newer");
+}
+
 int main(void)
 {
     static const size_t lengths[] = { 0, 1, 31, 32, 33, 64, LONG };
@@ -153,6 +184,7 @@ int main(void)
     }
     cipher_refused();
     journal_refused();
+    readings();
     if (!failed)
         printf("stack: in %d calls at most %d bytes of stack are used\n", (int)calls, (int)most);
     return failed;

@@ -71,6 +71,13 @@ extern "C" {
         m: *mut usize,
         at: *mut usize,
     ) -> u8;
+    fn votrikany_decode(
+        message: *const u8,
+        message_length: usize,
+        ratio: *mut f64,
+        tick: *mut u32,
+    ) -> u8;
+    fn votrikany_newer(a: u32, b: u32) -> bool;
 }
 
 pub fn seal_in_place(key: &Key, nonce: &Nonce, ad: &[u8], text: &mut [u8], tag: &mut Tag) -> u8 {
@@ -189,4 +196,12 @@ pub fn read_line(
             at,
         )
     }
+}
+
+pub fn decode(message: &[u8], ratio: &mut f64, tick: &mut u32) -> u8 {
+    unsafe { votrikany_decode(message.as_ptr(), message.len(), ratio, tick) }
+}
+
+pub fn newer(a: u32, b: u32) -> bool {
+    unsafe { votrikany_newer(a, b) }
 }

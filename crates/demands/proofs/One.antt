@@ -1,6 +1,7 @@
 -- Demand 1, from the answers of the entry points.
 use Rattle.morus.proofs.Answers as cipher
 use Rattle.journal.proofs.Answers.{text-outcome, read-outcome, write-outcome, order}
+use Rattle.reading.proofs.Answers.{answered}
 use Rattle.demands.specs.One.{Demand1}
 
 pub demand1 : Demand1
@@ -13,5 +14,6 @@ demand1 =
       read-line = λ j place key frame h. read-outcome h;
       read-text = λ text key frame h. text-outcome h;
       write-line = λ key nonce ad message line h. write-outcome h;
+      decode = λ m h b. answered m h b;
       order = order;
     }

@@ -2,7 +2,7 @@
 -- tests/gate-promises reads. Every call ends: a proof of a function is a proof that it returns.
 -- Bad input gets the number of the table. After any refused opening every byte of the output buffer is 0xaa; after a
 -- refused sealing it is untouched and the tag is zero. Each number with literals, every earlier test negated, and the
--- place that the reader says with it, is in Answers of the crates morus, run and journal.
+-- place that the reader says with it, is in Answers of the crates morus, run, journal and reading.
 use Prim.Native.Nat.{ℕ}
 use mathlib.Core.List.{List}
 use Rattle.morus.specs.declared.Sealed.{Sealed}
@@ -13,6 +13,9 @@ use Rattle.journal.specs.declared.Answer.{Answer}
 use Rattle.journal.specs.declared.Line.{Line}
 use Rattle.journal.specs.Promise.{TextRead, LineRead, LineWritten}
 use Rattle.journal.specs.Answers.{TextOutcome, ReadOutcome, WriteOutcome, Order}
+use Rattle.reading.specs.declared.Decoded.{Decoded}
+use Rattle.reading.specs.Reading.{IsDecoded}
+use Rattle.reading.specs.Answers.{Bytes, DecodeAnswer}
 
 -- whatever the promise of an entry point allows, for every input
 pub record Demand1 : Type 0 where
@@ -33,5 +36,7 @@ pub record Demand1 : Type 0 where
   -- the writer: 8, 10, 15
   pub write-line : (key nonce ad message line : List ℕ) {r : Line} {line' : List ℕ}
       → LineWritten key nonce ad message line r line' → WriteOutcome key nonce ad message line r line'
+  -- a reading: 17, 18, 19, 20, and what is handed out of it; of bytes, which are all that a `&[u8]` can hold
+  pub decode : (m : List ℕ) {d : Decoded} → IsDecoded m d → Bytes m → DecodeAnswer m d
   -- the order of the reader's tests and of the writer's, as the definitions have them
   pub order : Order

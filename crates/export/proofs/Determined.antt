@@ -1,10 +1,14 @@
 -- Any two outcomes that a promise allows coincide: the number, and whatever stands behind each `&mut` at exit.
 use mathlib.Core.Path.{_≡_, ap, sym, _∙_}
+use mathlib.Core.Bool.{Bool}
 use mathlib.Core.List.{List}
 use Prim.Native.Nat.{ℕ}
+use lib.Ieee.{Float}
 use Rattle.journal.specs.declared.Line.{Line}
 use Rattle.journal.specs.declared.Answer.{Answer}
-use Rattle.export.specs.Promise.{SealedInPlace, OpenedInPlace, SealedInto, OpenedInto, Wrote, Read}
+use Rattle.reading.specs.Reading.{Value}
+use Rattle.export.specs.Promise.{SealedInPlace, OpenedInPlace, SealedInto, OpenedInto}
+use Rattle.export.specs.Promise.{Wrote, Read, Decodes, Newer}
 
 module _ (key nonce ad : List ℕ) where
   pub votrikany-seal-in-place : (text : List ℕ) {r₁ r₂ : ℕ} {x₁ x₂ t₁ t₂ : List ℕ}
@@ -42,3 +46,12 @@ votrikany-read-line journal place key frame p q =
       ap (λ (a : Answer). a .m) e,
       ap (λ (a : Answer). a .at) e,
     )
+
+pub votrikany-decode : (message : List ℕ) {r₁ r₂ : ℕ} {x₁ x₂ : Float} {t₁ t₂ : ℕ}
+    → Decodes message r₁ x₁ t₁ → Decodes message r₂ x₂ t₂ → (r₁ ≡ r₂) × (x₁ ≡ x₂) × (t₁ ≡ t₂)
+votrikany-decode message p q =
+    let e = p .value ∙ sym (q .value) in
+    (p .answer ∙ sym (q .answer), ap (λ (v : Value). v .ratio) e, ap (λ (v : Value). v .tick) e)
+
+pub votrikany-newer : (a b : ℕ) {r₁ r₂ : Bool} → Newer a b r₁ → Newer a b r₂ → r₁ ≡ r₂
+votrikany-newer a b p q = p ∙ sym q

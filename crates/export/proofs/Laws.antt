@@ -5,6 +5,7 @@ use mathlib.Core.Path.{_≡_, refl, sym, ap, _∙_}
 use mathlib.Core.Logic.{inl, inr}
 use mathlib.Core.List.{List}
 use native.Mathlib.Omega.{arith}
+use lib.Ieee.{Float, toBits, ofBits, lt}
 use lib.ListN.{length}
 use Rattle.morus.specs.Seal.{seal, sealTag, unseal}
 use Rattle.morus.specs.Answers.{Short, SealAnswer, OpenAnswer}
@@ -13,7 +14,16 @@ use Rattle.morus.proofs.Laws.{seal-length, back}
 use Rattle.journal.specs.declared.Answer.{Answer}
 use Rattle.journal.proofs.Answers.{read-outcome, write-outcome}
 use Rattle.journal.proofs.RoundTrip.{handed-out}
-use Rattle.export.specs.Claims.{Back, Functions}
+use Rattle.reading.specs.declared.Decoded.{Decoded}
+use Rattle.reading.specs.declared.Decoded.the-variants.{Ratio, Refused}
+use Rattle.reading.specs.Reading.{Value, IsDecoded}
+use Rattle.reading.specs.Answers.{DecodeAnswer}
+use Rattle.reading.proofs.Answers.{answered}
+use Rattle.reading.proofs.Laws.{handed-plain}
+use Rattle.reading.proofs.Messages.{outcome}
+use Rattle.reading.proofs.Order.{tick-laws}
+use Rattle.export.specs.Promise.{handed, Decodes}
+use Rattle.export.specs.Claims.{Back, ReadingAnswer, Functions}
 
 module _ (key nonce ad text : List ℕ) where
   one-message : (m : List ℕ) → seal key nonce ad text ≡ seal key nonce ad m → text ≡ m
@@ -40,6 +50,19 @@ module _ (key nonce ad text : List ℕ) where
   round (SealAnswer.too-long h) z e o = absurd (omega arith)
   round (SealAnswer.other-length h l) z e o = absurd (omega arith)
 
+-- the case that a message decodes to, and what stands behind the pointers
+reading-answer : (message : List ℕ) {number tick' : ℕ} {ratio' : Float} (d : Decoded) → IsDecoded message d
+    → DecodeAnswer message d → Decodes message number ratio' tick' → ReadingAnswer message number ratio' tick'
+unfolding toBits ofBits lt
+reading-answer message (Ratio x t) p a q =
+    let v = q .value ∙ ap handed (sym (p .values)) in
+    rw (q .answer ∙ sym (p .number), ap (λ (w : Value). w .ratio) v, ap (λ (w : Value). w .tick) v)
+    (ReadingAnswer.decoded a (handed-plain message p))
+reading-answer message (Refused k) p a q =
+    let v = q .value ∙ ap handed (sym (p .values)) in
+    rw (q .answer ∙ sym (p .number), ap (λ (w : Value). w .ratio) v, ap (λ (w : Value). w .tick) v)
+    (ReadingAnswer.refused a refl tt)
+
 pub functions : Functions
 functions =
     record {
@@ -49,6 +72,10 @@ functions =
       open-into = λ key nonce ad text tag out o. cipher.decrypt _ _ ad text tag out o .answer;
       write-line = λ key nonce ad message line w. write-outcome w .answer;
       read-line = λ journal key frame place r. read-outcome r .answer;
+      decode = λ message b q.
+          let o = outcome message in
+          reading-answer message (o .decoded) (o .is) (answered message (o .is) b) q;
+      newer = λ a b ha hb e. rw e (tick-laws a b ha hb .answer);
       back-in-place = λ key nonce ad text s o.
           round key nonce ad text (cipher.encrypt-in-place _ _ ad text s .answer) refl (λ e. e)
           (cipher.decrypt-in-place _ _ ad _ _ o .answer);

@@ -1,16 +1,24 @@
 -- What the functions give, apart from the definitions that their promises are written with: the answers of the cipher
--- and of the journal, which speak with literals of `seal key nonce` and `sealTag key nonce`. The key comes before the
--- nonce, as in the header.
-use Prim.Native.Nat.{ℕ, _+_, _-_, _≤_}
+-- and of the journal, which speak with literals of `seal key nonce` and `sealTag key nonce`, and those of a reading and
+-- of two ticks. The key comes before the nonce, as in the header.
+use Prim.Native.Nat.{ℕ, _+_, _-_, _≤_, _<_}
 use mathlib.Core.Path.{_≡_}
+use mathlib.Core.Bool.{Bool, false}
 use mathlib.Core.List.{List, _∷_, _++_}
+use lib.Dec.{T}
+use lib.IntN.{pos}
+use lib.Ieee.{Float, fin, binary64, toBits, lt}
 use lib.ListN.{length, take, replicate}
 use Rattle.buffers.specs.Bytes.{Bytes}
 use Rattle.morus.specs.Seal.{sealTag}
 use Rattle.morus.specs.Answers.{SealAnswer, OpenAnswer}
 use Rattle.run.specs.Read.{reading}
 use Rattle.journal.specs.Answers.{ReadAnswer, WriteAnswer}
-use Rattle.export.specs.Promise.{SealedInPlace, OpenedInPlace, SealedInto, OpenedInto, Wrote, Read}
+use Rattle.reading.specs.declared.Decoded.the-variants.{Ratio, Refused}
+use Rattle.reading.specs.Answers.{DecodeAnswer, NewerAnswer}
+use Rattle.reading.specs.Laws.{plain}
+use Rattle.export.specs.Promise.{SealedInPlace, OpenedInPlace, SealedInto, OpenedInto}
+use Rattle.export.specs.Promise.{Wrote, Read, Decodes, Newer}
 
 -- what was sealed is opened
 pub record Back (text : List ℕ) (number : ℕ) (out' : List ℕ) : Type 0 where
@@ -29,7 +37,16 @@ pub record ReadBack (key nonce ad message frame : List ℕ) (place size : ℕ)
       ≡ (nonce ++ length ad ∷ (ad ++ (message ++ sealTag key nonce ad message)))
       ++ replicate (length frame - (33 + length ad + length message)) 170
 
--- whatever the promises of the six functions allow
+-- a reading: the ratio and the tick of the decoding's answer, no NaN and without a sign, so that its bytes are fixed;
+-- or its number, and then every byte behind the pointers is 0xaa, which is no ratio: it is below zero
+pub data ReadingAnswer (message : List ℕ) : (number : ℕ) (ratio' : Float) (tick' : ℕ) → Type 0 where
+  decoded : {ratio' : Float} {tick' : ℕ} → DecodeAnswer message (Ratio ratio' tick') → T (plain ratio')
+      → ReadingAnswer message 0 ratio' tick'
+  refused : {number : ℕ} {ratio' : Float} → DecodeAnswer message (Refused number)
+      → toBits binary64 ratio' ≡ 0xaaaaaaaaaaaaaaaa → T (lt ratio' (fin false 0 (pos 0)))
+      → ReadingAnswer message number ratio' 0xaaaaaaaa
+
+-- whatever the promises of the eight functions allow
 pub record Functions : Type 0 where
   pub seal-in-place : (key nonce ad text : List ℕ) {number : ℕ} {text' tag' : List ℕ}
       → SealedInPlace key nonce ad text number text' tag' → SealAnswer key nonce ad text text number tag' text'
@@ -45,6 +62,9 @@ pub record Functions : Type 0 where
       → Read journal place key frame number frame' next' n' m' at'
       → ReadAnswer key journal place (length frame)
       (reading (record { number = number; n = n'; m = m'; at = at'; buffer = frame' }) next')
+  pub decode : (message : List ℕ) {number tick' : ℕ} {ratio' : Float} → Bytes message
+      → Decodes message number ratio' tick' → ReadingAnswer message number ratio' tick'
+  pub newer : (a b : ℕ) {newer : Bool} → a < 4294967296 → b < 4294967296 → Newer a b newer → NewerAnswer a b newer
   -- what the one function has sealed or written, the other opens or reads
   pub back-in-place : (key nonce ad text : List ℕ) {number : ℕ} {text' tag' text'' : List ℕ}
       → SealedInPlace key nonce ad text 0 text' tag' → OpenedInPlace key nonce ad text' tag' number text''

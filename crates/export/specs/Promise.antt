@@ -1,9 +1,14 @@
--- What the functions for C and Rust promise: what the cipher and the journal promise, with the parts of the answer
--- where a caller finds them. A prime marks what a buffer or a number holds at exit.
+-- What the functions for C and Rust promise: what the cipher, the journal and the reading promise, with the parts of
+-- the answer where a caller finds them. A prime marks what a buffer or a number holds at exit.
 use Prim.Native.Nat.{ℕ}
-use mathlib.Core.List.{List}
+use mathlib.Core.Path.{_≡_}
+use mathlib.Core.Bool.{Bool}
+use mathlib.Core.List.{List, [], _∷_}
+use lib.Ieee.{Float, binary64, ofBits}
 use Rattle.morus.specs.Morus.{begun, Encrypted, Decrypted, EncryptedInto, DecryptedInto}
 use Rattle.journal.specs.Promise.{LineWritten, LineRead}
+use Rattle.reading.specs.Reading.{Value, answer, values}
+use Rattle.reading.specs.Ticks.{newerThan}
 
 -- sealing: the number is the result, the ciphertext stands in the buffer and the tag behind its pointer
 abbrev pub SealedInPlace : (key nonce ad text : List ℕ) → (number : ℕ) → (text' tag' : List ℕ) → Type 0
@@ -31,3 +36,17 @@ abbrev pub Read : (journal : List ℕ) → (place : ℕ) → (key frame : List �
     → (next' n' m' at' : ℕ) → Type 0
 Read journal place key frame number frame' next' n' m' at' =
     LineRead journal place key frame (record { number = number; next = next'; n = n'; m = m'; at = at' }) frame'
+
+-- what stands behind the pointers: the one value, or where there is none 0xaa in every byte
+abbrev pub handed : List Value → Value
+handed [] = record { ratio = ofBits binary64 0xaaaaaaaaaaaaaaaa; tick = 0xaaaaaaaa }
+handed (v ∷ vs) = v
+
+-- a reading decoded: the number is the result, ratio and tick stand behind their pointers
+pub record Decodes (message : List ℕ) (number : ℕ) (ratio' : Float) (tick' : ℕ) : Type 0 where
+  pub answer : number ≡ answer message
+  pub value : record { ratio = ratio'; tick = tick' } ≡ handed (values message)
+
+-- two ticks: whether the first is newer
+abbrev pub Newer : (a b : ℕ) → (newer : Bool) → Type 0
+Newer a b newer = newer ≡ newerThan a b

@@ -4,8 +4,10 @@ use journal::read_line;
 use journal::write_line;
 use morus::Morus;
 use morus::Sealed;
+use reading::Decoded;
 ghost use mathlib.Core.Path.{_≡_};
-ghost use Rattle.export.specs.Promise.{SealedInPlace, OpenedInPlace, SealedInto, OpenedInto, Wrote, Read};
+ghost use Rattle.export.specs.Promise.{SealedInPlace, OpenedInPlace, SealedInto, OpenedInto};
+ghost use Rattle.export.specs.Promise.{Wrote, Read, Decodes, Newer};
 
 // A sealing's tag behind its pointer, and its number.
 fn stored(sealed: Sealed, tag: &mut [u8; 16]) -> u8
@@ -118,4 +120,30 @@ pub extern "C" fn votrikany_read_line(
     *m = answer.m;
     *at = answer.at;
     answer.number
+}
+
+// Where there is no ratio every byte is 0xaa, as after a refused opening: a number below zero, which no ratio is.
+#[no_mangle]
+pub extern "C" fn votrikany_decode(message: &[u8], ratio: &mut f64, tick: &mut u32) -> u8
+    ensures { λ r. ⌜ Decodes (now (message .entry)) r (now (ratio .exit)) (now (tick .exit)) ⌝ }
+{
+    match reading::decode(message) {
+        Decoded::Ratio(x, t) => {
+            *ratio = x;
+            *tick = t;
+            0
+        }
+        Decoded::Refused(number) => {
+            *ratio = f64::from_bits(0xaaaa_aaaa_aaaa_aaaa);
+            *tick = 0xaaaa_aaaa;
+            number
+        }
+    }
+}
+
+#[no_mangle]
+pub extern "C" fn votrikany_newer(a: u32, b: u32) -> bool
+    ensures { λ r. ⌜ Newer a b r ⌝ }
+{
+    reading::newer(a, b)
 }

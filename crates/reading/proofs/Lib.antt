@@ -1,0 +1,10 @@
+pub mod Numbers
+pub mod Counters
+pub mod Messages
+pub mod Determined
+pub mod Fields
+pub mod Answers
+pub mod Ratios
+pub mod Order
+pub mod Laws
+pub mod Examples
