@@ -2,6 +2,8 @@
 //! Only well-formed lines come here, one to a line of standard input: who makes the cases knows which are not.
 #[path = "../../tools/rust/journal.rs"]
 mod journal;
+#[path = "../../tools/rust/reading.rs"]
+mod reading;
 
 use journal::REFUSED;
 use morus::Morus;
@@ -25,6 +27,10 @@ fn sixteen(word: &str) -> [u8; 16] {
 
 fn number(word: &str) -> usize {
     word.parse().expect("a number")
+}
+
+fn tick(word: &str) -> u32 {
+    word.parse().expect("a tick")
 }
 
 fn digits(bytes: &[u8]) -> String {
@@ -97,6 +103,18 @@ fn read(w: &[&str]) -> String {
     format!("{} {} {} {} {} {}", a.number, a.next, a.n, a.m, a.at, digits(&frame))
 }
 
+/// The ratio is written as its bits, so that each of them is compared.
+fn decode(w: &[&str]) -> String {
+    match reading::decode(&bytes(w[1])) {
+        Ok((ratio, tick)) => format!("0 {} {:016x}", tick, ratio.to_bits()),
+        Err(number) => number.to_string(),
+    }
+}
+
+fn newer(w: &[&str]) -> String {
+    u8::from(reading::newer(tick(w[1]), tick(w[2]))).to_string()
+}
+
 fn answer(line: &str) -> String {
     let w: Vec<&str> = line.split(' ').collect();
     match w[0] {
@@ -106,6 +124,8 @@ fn answer(line: &str) -> String {
         "open2" => open2(&w),
         "write" => write(&w),
         "read" => read(&w),
+        "decode" => decode(&w),
+        "newer" => newer(&w),
         name => panic!("no such case: {}", name),
     }
 }

@@ -7,12 +7,14 @@ use morus::Tag;
 // How many numbers an answer can have.
 pub(crate) const NUMBERS: usize = 8;
 
-// Numbers, the first `size` of the bytes, and a tag where the case seals. A line that is no case has no number.
+// Numbers, the first `size` of the bytes where the case has a buffer, and a tag where it seals. A line that is no case
+// has no number.
 pub(crate) struct Answer {
     pub numbers: [usize; NUMBERS],
     pub count: usize,
     pub bytes: Buffer,
     pub size: usize,
+    pub buffered: bool,
     pub tag: Tag,
     pub tagged: bool,
 }
@@ -25,16 +27,23 @@ impl Answer {
             count: 0,
             bytes: [0u8; SIZE],
             size: 0,
+            buffered: false,
             tag: [0u8; 16],
             tagged: false,
         }
     }
 
+    // The number of a call.
+    pub(crate) fn number(number: u8) -> Answer {
+        Answer::none().with(number as usize)
+    }
+
     // The number of a call, and what its buffer holds then.
     pub(crate) fn new(number: u8, bytes: Buffer, size: usize) -> Answer {
-        let mut made = Answer::none().with(number as usize);
+        let mut made = Answer::number(number);
         made.bytes = bytes;
         made.size = size;
+        made.buffered = true;
         made
     }
 

@@ -7,6 +7,8 @@ pub(crate) enum Kind {
     Open2,
     Write,
     Read,
+    Decode,
+    Newer,
     None,
 }
 
@@ -28,6 +30,12 @@ pub(crate) fn kind_of(name: &[u8]) -> Kind {
     }
     if check::same(name, b"read") {
         return Kind::Read;
+    }
+    if check::same(name, b"decode") {
+        return Kind::Decode;
+    }
+    if check::same(name, b"newer") {
+        return Kind::Newer;
     }
     Kind::None
 }

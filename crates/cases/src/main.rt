@@ -6,6 +6,7 @@ mod head;
 mod journaling;
 mod kind;
 mod output;
+mod readings;
 mod words;
 
 use answer::Answer;
@@ -29,6 +30,8 @@ fn answer_to(line: &[u8]) -> Answer {
         Kind::Open2 => cipher::open2(line),
         Kind::Write => journaling::write(line),
         Kind::Read => journaling::read(line),
+        Kind::Decode => readings::decode(line),
+        Kind::Newer => readings::newer(line),
         Kind::None => Answer::none(),
     }
 }

@@ -36,11 +36,15 @@ fn put_text(out: &mut [u8], at: usize, text: &[u8]) -> usize {
     wrapping_add_usize(at, text.len())
 }
 
-// A number and a space.
-fn put_number(out: &mut [u8], at: usize, number: usize) -> usize {
+fn put_decimal(out: &mut [u8], at: usize, number: usize) -> usize {
     let mut digits = [0u8; 20];
     let k = io::decimal(number as u64, &mut digits);
-    let end = put_text(out, at, &digits[..k]);
+    put_text(out, at, &digits[..k])
+}
+
+// A number and a space.
+fn put_number(out: &mut [u8], at: usize, number: usize) -> usize {
+    let end = put_decimal(out, at, number);
     put_text(out, end, b" ")
 }
 
@@ -76,7 +80,7 @@ fn put_tag(out: &mut [u8], at: usize, tag: Tag) -> usize {
     put_bytes(out, from, &tag)
 }
 
-// What a case answers, without the newline.
+// What a case answers that has a buffer, without the newline.
 fn put_case(a: Answer, out: &mut [u8], at: usize) -> usize {
     let numbers = a.numbers;
     let bytes = a.bytes;
@@ -89,11 +93,20 @@ fn put_case(a: Answer, out: &mut [u8], at: usize) -> usize {
     end
 }
 
-// The line of an answer, `?` for no case.
-pub(crate) fn put_answer(a: Answer, out: &mut [u8], at: usize) -> usize {
+// An answer without its newline, `?` for no case: a case with no buffer answers one number alone.
+fn put_line(a: Answer, out: &mut [u8], at: usize) -> usize {
     if a.count == 0 {
-        return put_text(out, at, b"?\n");
+        return put_text(out, at, b"?");
     }
-    let end = put_case(a, out, at);
+    if a.buffered {
+        return put_case(a, out, at);
+    }
+    let numbers = a.numbers;
+    put_decimal(out, at, numbers[0])
+}
+
+// The line of an answer.
+pub(crate) fn put_answer(a: Answer, out: &mut [u8], at: usize) -> usize {
+    let end = put_line(a, out, at);
     put_text(out, end, b"\n")
 }

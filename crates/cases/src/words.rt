@@ -1,9 +1,14 @@
-// What a word can say besides bytes: a number, or a buffer's size.
+// What a word can say besides bytes: a number, a tick, or a buffer's size.
 use crate::buffer::SIZE;
 
 pub(crate) struct Number {
     pub good: bool,
     pub value: usize,
+}
+
+pub(crate) struct Tick {
+    pub good: bool,
+    pub value: u32,
 }
 
 fn wide(x: u8) -> usize {
@@ -45,6 +50,21 @@ pub(crate) fn number_of(text: &[u8]) -> Number {
     Number {
         good: (0 < text.len()) & (text.len() <= 20),
         value,
+    }
+}
+
+// A tick: a number below 2^32.
+pub(crate) fn tick_of(text: &[u8]) -> Tick {
+    let n = number_of(text);
+    if 0xffff_ffff < n.value {
+        return Tick {
+            good: false,
+            value: 0,
+        };
+    }
+    Tick {
+        good: n.good,
+        value: n.value as u32,
     }
 }
 
