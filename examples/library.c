@@ -1,5 +1,5 @@
 /* Votrikany from C: seals and opens a message, writes two readings into a journal with a roll mark between them, and
- * reads and decodes them, whole and damaged.
+ * reads and decodes them, whole and damaged, line by line and all in one call.
  *   cc -Iinclude examples/library.c target/staticlib/libexport.a
  */
 #include <inttypes.h>
@@ -76,21 +76,39 @@ static size_t add_line(uint8_t *journal, size_t end, size_t room, uint8_t count,
     return end + size;
 }
 
+static void show_answer(size_t place, const struct votrikany_slot *a, const uint8_t *frame)
+{
+    printf("%zu %zu %zu %zu %zu", place, a->number, a->n, a->m, a->at);
+    if (a->number == VOTRIKANY_DONE) {
+        printf(" %.*s: ", (int)a->n, (const char *)frame + VOTRIKANY_DATA_AT);
+        decode(frame + VOTRIKANY_DATA_AT + a->n, a->m);
+    }
+    printf("\n");
+}
+
 static void read_all(const uint8_t *journal, size_t length)
 {
     uint8_t frame[VOTRIKANY_FRAME_SIZE];
-    size_t place = 0, next, n, m, at;
-    for (;;) {
-        uint8_t number = votrikany_read_line(journal, length, place, key, frame, sizeof frame, &next, &n, &m, &at);
-        printf("%zu %d %zu %zu %zu", place, number, n, m, at);
-        if (number == VOTRIKANY_DONE) {
-            printf(" %.*s: ", (int)n, (const char *)frame + VOTRIKANY_DATA_AT);
-            decode(frame + VOTRIKANY_DATA_AT + n, m);
-        }
-        printf("\n");
-        if (number == VOTRIKANY_END)
-            return;
-        place = next;
+    struct votrikany_slot a = { 0 };
+    for (size_t place = 0; a.number != VOTRIKANY_END; place = a.next) {
+        a.number = votrikany_read_line(journal, length, place, key, frame, sizeof frame, &a.next, &a.n, &a.m, &a.at);
+        show_answer(place, &a, frame);
+    }
+}
+
+/* A slot and a frame for each of two lines, the roll mark and the end, all filled by one call. */
+static void read_at_once(const uint8_t *journal, size_t length)
+{
+    enum { SLOTS = 4 };
+    struct votrikany_slot slots[SLOTS];
+    uint8_t frames[SLOTS * VOTRIKANY_FRAME_SIZE];
+    size_t place = 0, next;
+    uint8_t number = votrikany_read_lines(journal, length, place, key, (size_t *)slots, SLOTS * VOTRIKANY_SLOT_SIZE,
+                                          frames, sizeof frames, &next);
+    printf("read %d, to %zu\n", number, next);
+    for (size_t i = 0; i < SLOTS; i++) {
+        show_answer(place, &slots[i], frames + i * VOTRIKANY_FRAME_SIZE);
+        place = slots[i].next;
     }
 }
 
@@ -106,6 +124,7 @@ int main(void)
     pack(message, late, 33619968, 1048576);
     end = add_line(journal, end, sizeof journal, 3, message);
     read_all(journal, end);
+    read_at_once(journal, end);
     printf("tick %" PRIu32 " is newer than %" PRIu32 ": %d\n", late, early, votrikany_newer(late, early));
     pack(message, 5, 1048576, 33619968); /* as of two instants: more active than resident */
     decode(message, sizeof message);
@@ -113,6 +132,6 @@ int main(void)
     journal[10] = journal[10] == '0' ? '1' : '0'; /* another digit: the tag differs */
     read_all(journal, end);
     journal[130] = 'g'; /* no digit: the answer says where */
-    read_all(journal, end);
+    read_at_once(journal, end);
     return 0;
 }

@@ -5,22 +5,24 @@
  * x86-64 Linux code that wants nothing but `memcpy` and `memset` of the C library.
  *
  * Numbers given back. Each function but `votrikany_newer` returns one of these; what it leaves is said with it.
- *    0  done, opened, decoded                10  over 256 bytes of message
- *    1  the tag differs                      11  no newline up to the journal's end
- *    2  2^61 bytes or more                   12  the place is beyond the journal's end
- *    3  the second buffer's length is        13  the frame buffer has under 353 bytes
- *       not the text's                       14  the place is the journal's end
- *    4  over 706 bytes before the newline    15  the line buffer is shorter than the line
- *    5  a byte is not 0-9 or a-f             16  a roll mark: an empty line, no damage
- *    6  an odd number of digits              17  not 20 bytes: no reading
- *    7  1 to 32 frame bytes                  18  resident or active is above 2^53
- *    8  over 64 bytes of data                19  active is above resident
- *    9  the frame ends before its data does  20  resident is zero
+ *    0  done, opened, decoded                11  no newline up to the journal's end
+ *    1  the tag differs                      12  the place is beyond the journal's end
+ *    2  2^61 bytes or more                   13  the frame buffer has under 353 bytes
+ *    3  the second buffer's length is        14  the place is the journal's end
+ *       not the text's                       15  the line buffer is shorter than the line
+ *    4  over 706 bytes before the newline    16  a roll mark: an empty line, no damage
+ *    5  a byte is not 0-9 or a-f             17  not 20 bytes: no reading
+ *    6  an odd number of digits              18  resident or active is above 2^53
+ *    7  1 to 32 frame bytes                  19  active is above resident
+ *    8  over 64 bytes of data                20  resident is zero
+ *    9  the frame ends before its data does  21  the frame area is not 353 bytes
+ *   10  over 256 bytes of message                for each slot
  *
  * What the caller owes. Nothing checks a caller that is not Rattle:
- *  - `key`, `nonce` and `tag` point to 16 bytes each. They, and the pointers to a size_t, a double or a uint32_t, are
+ *  - `key`, `nonce` and `tag` point to 16 bytes each. They, and the pointers to one size_t, double or uint32_t, are
  *    never null.
- *  - Any other pointer is to as many bytes as the length behind it says. It may be null where that length is 0, and only there.
+ *  - Any other pointer is to as many bytes as the length behind it says, but `slots` to as many words, each a size_t,
+ *    and aligned as a size_t is. It may be null where that length is 0, and only there.
  *  - What is written to (each pointer without `const`) overlaps nothing else of the call. What is only read may overlap.
  *  - No other thread writes to any of it during the call, or reads what the call writes.
  *  - Doubles are rounded to nearest, and nothing traps, as a program starts: `votrikany_decode` divides as the thread
@@ -65,7 +67,8 @@ enum {
     VOTRIKANY_NOT_TWENTY = 17,
     VOTRIKANY_COUNTER_TOO_LARGE = 18,
     VOTRIKANY_ACTIVE_ABOVE = 19,
-    VOTRIKANY_RESIDENT_ZERO = 20
+    VOTRIKANY_RESIDENT_ZERO = 20,
+    VOTRIKANY_AREA_DIFFERS = 21
 };
 
 /* A frame is nonce (16), data count n (1), data (n), message or ciphertext (m), tag (16); a line is a frame in lowercase
@@ -76,7 +79,8 @@ enum {
     VOTRIKANY_FRAME_SIZE = 353,  /* the least that a frame buffer has */
     VOTRIKANY_LONGEST_LINE = 707,
     VOTRIKANY_DATA_AT = 17,      /* where the data stands in an opened frame; the message stands at 17 + n */
-    VOTRIKANY_READING_SIZE = 20  /* the bytes of a message that is a reading */
+    VOTRIKANY_READING_SIZE = 20, /* the bytes of a message that is a reading */
+    VOTRIKANY_SLOT_SIZE = 5      /* the words, of a size_t each, of a slot */
 };
 
 /* Seals `text_length` bytes of message at `text` where they stand, bound to the data `ad`, and puts the tag at `tag`.
@@ -136,6 +140,44 @@ uint8_t votrikany_write_line(const uint8_t *key, const uint8_t *nonce, const uin
  */
 uint8_t votrikany_read_line(const uint8_t *journal, size_t journal_length, size_t place, const uint8_t *key,
                             uint8_t *frame, size_t frame_length, size_t *next, size_t *n, size_t *m, size_t *at);
+
+/* A slot of `votrikany_read_lines`: what `votrikany_read_line` returns for one line, and the four that it hands out. */
+struct votrikany_slot {
+    size_t number, next, n, m, at;
+};
+
+/* Reads k lines in one call, from `place` on, with k = slots_length / 5: `slots_length` counts words of a size_t, five
+ * to a slot, and neither bytes nor slots. Slot i is the words 5 * i to 5 * i + 4 of `slots`, in the order of the struct
+ * above; frame i is the bytes 353 * i to 353 * i + 352 of `frames`.
+ *   0  Slots and frames are what k calls of `votrikany_read_line` hand out, each with frame i for its frame buffer, the
+ *      first from `place`, every other from the place that the one before gave. A line that is not opened has its
+ *      number in its slot, and the call answers 0 all the same. Once a slot says 14, so does every one behind it; from
+ *      a place beyond the end every slot says 12. `*next` is the last slot's next place; with no slot it is `place`.
+ *  21  `frames_length` is not 353 * k, which is looked at before all else: every byte of `frames` is 0xaa, each slot is
+ *      21, place, 0, 0, place, and `*next` is `place`.
+ *   With either, the words behind the last whole slot, at most four, are as they were.
+ * An array of the struct can be handed over as `(size_t *)slots, 5 * k`, but only since it is five size_t with nothing
+ * between them: each member is then written as the size_t that it is. A whole journal, with 64 slots:
+ *
+ *     struct votrikany_slot slots[64];
+ *     uint8_t frames[64 * VOTRIKANY_FRAME_SIZE];
+ *     size_t place = 0, next;
+ *     for (;;) {
+ *         votrikany_read_lines(journal, journal_length, place, key, (size_t *)slots, 64 * VOTRIKANY_SLOT_SIZE,
+ *                              frames, sizeof frames, &next);
+ *         for (size_t i = 0; i < 64; i++) {
+ *             if (slots[i].number == VOTRIKANY_END)
+ *                 return;
+ *             use(place, &slots[i], frames + i * VOTRIKANY_FRAME_SIZE);
+ *             place = slots[i].next;
+ *         }
+ *     }
+ *
+ * There `place` is where the line of slot i starts, and behind the last slot it is `next`. From a place beyond the end
+ * no slot says 14, and the loop would not end.
+ */
+uint8_t votrikany_read_lines(const uint8_t *journal, size_t journal_length, size_t place, const uint8_t *key,
+                             size_t *slots, size_t slots_length, uint8_t *frames, size_t frames_length, size_t *next);
 
 /* Decodes a message that is a reading of the heap at one instant: tick (4 bytes), resident (8) and active (8), each
  * with its low byte first.

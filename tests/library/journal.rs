@@ -1,8 +1,11 @@
 //! The journal of bindings/rust: what is written is read back and decoded, and refusals leave what the header says.
+use std::iter::FusedIterator;
 use votrikany::journal::{
-    read_line, write_line, Answer, Line, Reading, ACTIVE_ABOVE, COUNTER_TOO_LARGE, FRAME_SIZE,
-    LONGEST_LINE, NOT_TWENTY, READING_SIZE, RESIDENT_ZERO, ROLL_MARK,
+    lines, read_line, read_lines, write_line, Answer, Entry, Line, Lines, Reading, ACTIVE_ABOVE,
+    COUNTER_TOO_LARGE, END, FRAME_SIZE, LONGEST_LINE, NOT_TWENTY, READING_SIZE, RESIDENT_ZERO,
+    ROLL_MARK,
 };
+use votrikany::Key;
 
 /// A reading of the line at `place` in a text that ends with it, which is refused with a number and says a place.
 fn refused(text: &[u8], place: usize, number: u8, at: usize) {
@@ -92,6 +95,212 @@ fn roll_marks() {
     assert_eq!((small.number, small.next, small.at), (13, 0, 0));
 }
 
+/// K lines in one call and in K calls.
+fn as_many_calls<const K: usize>(text: &[u8], place: usize, key: &Key) {
+    let (mut frames, mut frame) = ([[0x55; FRAME_SIZE]; K], [0x55; FRAME_SIZE]);
+    let (answers, last) = read_lines(text, place, key, &mut frames);
+    let mut next = place;
+    for (answer, got) in answers.iter().zip(&frames) {
+        let wanted = read_line(text, next, key, &mut frame);
+        assert_eq!(*answer, wanted, "{} lines from {}", K, place);
+        assert_eq!(*got, frame, "{} lines from {}", K, place);
+        next = wanted.next;
+    }
+    assert_eq!(last, next, "{} lines from {}", K, place);
+}
+
+/// A line for each number that a line can have, good ones between them, and the last one cut.
+fn each_number(key: &Key) -> Vec<u8> {
+    let (mut text, mut line) = (Vec::new(), [0; LONGEST_LINE]);
+    let length = write_line(key, &[9; 16], b"host", b"reading", &mut line).length;
+    for (digits, n) in [
+        (0, 0),
+        (707, 0),
+        (67, 0),
+        (64, 0),
+        (66, 65),
+        (66, 1),
+        (706, 0),
+        (66, 0),
+    ] {
+        text.extend([&zeros(digits, n), b"\n".as_slice(), &line[..length]].concat());
+    }
+    text.extend(b"0g\nabc");
+    text
+}
+
+fn many_lines() {
+    let key = [7; 16];
+    let text = each_number(&key);
+    let numbers = read_lines(&text, 0, &key, &mut [[0; FRAME_SIZE]; 20]).0;
+    assert_eq!(
+        numbers.map(|answer| answer.number),
+        [ROLL_MARK, 0, 4, 0, 6, 0, 7, 0, 8, 0, 9, 0, 10, 0, 1, 0, 5, 11, END, END]
+    );
+    for text in [&text, &text[..text.len() - 3], b"", b"\n\n", b"0g\n\nabc"] {
+        let end = text.len();
+        for place in [
+            0,
+            1,
+            2,
+            end / 3,
+            end / 2,
+            end.max(1) - 1,
+            end,
+            end + 1,
+            usize::MAX,
+        ] {
+            as_many_calls::<0>(text, place, &key);
+            as_many_calls::<1>(text, place, &key);
+            as_many_calls::<2>(text, place, &key);
+            as_many_calls::<7>(text, place, &key);
+            as_many_calls::<20>(text, place, &key);
+        }
+    }
+}
+
+/// The example of `read_lines`: every reading of a journal, in its order.
+fn for_each_reading(journal: &[u8], key: &Key, mut work: impl FnMut(Reading)) {
+    let (mut frames, mut place) = ([[0; FRAME_SIZE]; 64], 0);
+    loop {
+        let (answers, next) = read_lines(journal, place, key, &mut frames);
+        for (answer, frame) in answers.iter().zip(&frames) {
+            if answer.number == END {
+                return;
+            }
+            // A line that is not opened has no message, and so no reading.
+            if let Ok(reading) = Reading::decode(answer.message(frame)) {
+                work(reading);
+            }
+        }
+        place = next;
+    }
+}
+
+/// A journal of so many lines, and its readings: no two opened lines are alike, every third line is a roll mark, every
+/// fourth no reading.
+fn journal_of(lines: u32, key: &Key) -> (Vec<u8>, Vec<Reading>) {
+    let (mut text, mut wanted, mut line) = (Vec::new(), Vec::new(), [0; LONGEST_LINE]);
+    for tick in 0..lines {
+        if tick % 3 == 2 {
+            text.push(b'\n');
+            continue;
+        }
+        let sent = &message(tick, 4, 1)[..READING_SIZE - (tick % 4 == 3) as usize];
+        let length = write_line(key, &[9; 16], b"host", sent, &mut line).length;
+        text.extend(&line[..length]);
+        wanted.extend(Reading::decode(sent));
+    }
+    (text, wanted)
+}
+
+/// Journals that end before, with and behind a batch of 64.
+fn batches() {
+    let key = [7; 16];
+    for lines in [0, 1, 63, 64, 65, 127, 128, 129, 200] {
+        let ((text, wanted), mut got) = (journal_of(lines, &key), Vec::new());
+        for_each_reading(&text, &key, |reading| got.push(reading));
+        assert_eq!(got, wanted, "{} lines", lines);
+    }
+}
+
+fn fused<I: FusedIterator>(items: I) -> I {
+    items
+}
+
+/// The lines of a journal by calls of `read_line` one after another, up to the end and without it.
+fn one_by_one(text: &[u8], key: &Key) -> Vec<Entry> {
+    let (mut place, mut frame, mut entries) = (0, [0x55; FRAME_SIZE], Vec::new());
+    loop {
+        let answer = read_line(text, place, key, &mut frame);
+        if answer.number == END {
+            return entries;
+        }
+        entries.push(Entry {
+            place,
+            answer,
+            frame,
+        });
+        place = answer.next;
+    }
+}
+
+/// How many items the iterator gives: these lines, and then none for longer than a batch can be.
+fn iterated(text: &[u8], key: &Key) -> usize {
+    let (wanted, mut items) = (one_by_one(text, key), fused(lines(text, key)));
+    for line in &wanted {
+        assert_eq!(items.next().as_ref(), Some(line));
+        assert_eq!(line.data(), line.answer.data(&line.frame));
+        assert_eq!(line.message(), line.answer.message(&line.frame));
+    }
+    assert!((0..100).all(|_| items.next().is_none()), "{:?}", text);
+    wanted.len()
+}
+
+/// Every number of lines up to several batches, whole, cut, with damage in the middle, and under another key.
+fn iterator() {
+    let key = [7; 16];
+    for count in 0..=70 {
+        assert_eq!(iterated(&b"\n".repeat(count), &key), count);
+        let (mut text, _) = journal_of(count as u32, &key);
+        let (middle, last) = (text.len() / 2, text.len().max(1) - 1);
+        assert_eq!(iterated(&text, &key), count);
+        assert_eq!(iterated(&text, &[8; 16]), count);
+        iterated(&text[..last], &key);
+        text.extend(b"ab");
+        assert_eq!(iterated(&text, &key), count + 1);
+        for byte in [b'g', b'\n'] {
+            text[middle] = byte;
+            iterated(&text, &key);
+        }
+    }
+    let text = each_number(&key);
+    assert_eq!(iterated(&text, &key), 18);
+    for end in 0..200 {
+        iterated(&text[..end], &key);
+        iterated(&text[text.len() - end..], &key);
+    }
+}
+
+/// The example of `lines`.
+fn readings_of<'a>(journal: &'a [u8], key: &'a Key) -> impl Iterator<Item = Reading> + 'a {
+    // A line that is not opened has no message, and so no reading.
+    lines(journal, key).filter_map(|line| Reading::decode(line.message()).ok())
+}
+
+fn damaged(journal: &[u8], key: &Key) -> usize {
+    lines(journal, key)
+        .filter(|line| ![0, ROLL_MARK].contains(&line.answer.number))
+        .count()
+}
+
+/// What the iterator says of a journal that was written, and not by other calls; two at once do not meet, and a line
+/// outlives its journal.
+fn iterator_used() {
+    let key = [7; 16];
+    let (text, wanted) = journal_of(40, &key);
+    assert!(readings_of(&text, &key).eq(wanted.iter().copied()));
+    assert_eq!(damaged(&text, &key), 0);
+    assert_eq!(damaged(&each_number(&key), &key), 9);
+    let three: Vec<_> = lines(b"0g\n\nabc", &key)
+        .map(|line| (line.place, line.answer.number, line.frame))
+        .collect();
+    let nothing = [0xaa; FRAME_SIZE];
+    assert_eq!(
+        three,
+        [(0, 5, nothing), (3, ROLL_MARK, nothing), (4, 11, nothing)]
+    );
+    let (mut ahead, behind) = (lines(&text, &key), lines(&text, &key));
+    let first = ahead.next();
+    ahead.by_ref().take(20).for_each(drop);
+    assert_eq!((ahead.count(), behind.count()), (19, 40));
+    drop(text);
+    let first = first.unwrap();
+    assert_eq!((first.place, first.data()), (0, b"host".as_slice()));
+    assert_eq!(first.message(), message(0, 4, 1));
+    assert!(std::mem::size_of::<Lines>() < 8192);
+}
+
 fn message(tick: u32, resident: u64, active: u64) -> [u8; READING_SIZE] {
     let mut bytes = [0; READING_SIZE];
     bytes[..4].copy_from_slice(&tick.to_le_bytes());
@@ -101,7 +310,7 @@ fn message(tick: u32, resident: u64, active: u64) -> [u8; READING_SIZE] {
 }
 
 /// The reading of the line at `place`, or the number of the line or of its message.
-fn reading_at(journal: &[u8], place: usize, key: &votrikany::Key) -> Result<Reading, u8> {
+fn reading_at(journal: &[u8], place: usize, key: &Key) -> Result<Reading, u8> {
     let mut frame = [0; FRAME_SIZE];
     let answer = read_line(journal, place, key, &mut frame);
     match answer.number {
@@ -226,10 +435,14 @@ fn main() {
     assert_eq!(small, [0x55; 66]);
     places();
     roll_marks();
+    many_lines();
     readings();
+    batches();
+    iterator();
+    iterator_used();
     newer();
     println!(
-        "journal: {} lines written and read back, refusals and readings as the header says",
+        "journal: {} lines written and read back, refusals, batches and readings as the header says",
         lines
     );
 }

@@ -196,6 +196,244 @@ static void opened(void)
     expect(next == 3 + size && n == 3 && m == 2 && at == 3, "the next place, n, m and the place given");
 }
 
+/* Slots are handed over as words, which is allowed only where nothing stands between the members. */
+typedef char a_slot_is_five_words[sizeof(struct votrikany_slot) == VOTRIKANY_SLOT_SIZE * sizeof(size_t) ? 1 : -1];
+
+/* What a call of many lines is lent: words and an area for up to 13 slots, with something before and behind each, and
+ * the area at an odd address. What is before and behind is compared too. */
+enum { SLOT = VOTRIKANY_SLOT_SIZE, FRAME = VOTRIKANY_FRAME_SIZE, WORDS = 13 * SLOT, AREA = 13 * FRAME, EDGE = 401 };
+
+struct lent {
+    size_t before[4], words[WORDS], behind[4], next;
+    uint8_t area[EDGE + AREA + EDGE];
+};
+
+static void paint(struct lent *lent)
+{
+    memset(lent, 0x55, sizeof *lent);
+}
+
+static int same(const struct lent *a, const struct lent *b)
+{
+    return memcmp(a, b, sizeof *a) == 0;
+}
+
+static uint8_t read_lines(const uint8_t *text, size_t length, size_t place, struct lent *lent, size_t words,
+                          size_t area)
+{
+    return votrikany_read_lines(text, length, place, key, lent->words, words, lent->area + EDGE, area, &lent->next);
+}
+
+/* What is to be there: a call of votrikany_read_line for each slot, from the place that the one before gave. */
+static void one_by_one(const uint8_t *text, size_t length, size_t place, struct lent *lent, size_t slots)
+{
+    for (size_t i = 0; i < slots; i++) {
+        struct votrikany_slot a;
+        uint8_t *frame = lent->area + EDGE + i * FRAME;
+        a.number = votrikany_read_line(text, length, place, key, frame, FRAME, &a.next, &a.n, &a.m, &a.at);
+        memcpy(lent->words + i * SLOT, &a, sizeof a);
+        place = a.next;
+    }
+    lent->next = place;
+}
+
+/* Each number of words, and with it each number of words behind the last whole slot. */
+static int each_number_of_words(const uint8_t *text, size_t length, size_t place)
+{
+    static struct lent got, wanted;
+    int equal = 1;
+    for (size_t words = 0; words <= WORDS; words++) {
+        paint(&got), paint(&wanted);
+        uint8_t number = read_lines(text, length, place, &got, words, words / SLOT * FRAME);
+        one_by_one(text, length, place, &wanted, words / SLOT);
+        equal &= number == VOTRIKANY_DONE && same(&got, &wanted);
+    }
+    return equal;
+}
+
+/* One call, and two with the same slots between them. */
+static int each_cut(const uint8_t *text, size_t length, size_t place)
+{
+    static struct lent whole, cut;
+    int equal = 1;
+    paint(&whole);
+    uint8_t number = read_lines(text, length, place, &whole, WORDS, AREA);
+    for (size_t words = 0; words <= WORDS; words += SLOT) {
+        size_t area = words / SLOT * FRAME, from;
+        paint(&cut);
+        uint8_t one = votrikany_read_lines(text, length, place, key, cut.words, words, cut.area + EDGE, area, &from);
+        uint8_t two = votrikany_read_lines(text, length, from, key, cut.words + words, WORDS - words,
+                                           cut.area + EDGE + area, AREA - area, &cut.next);
+        equal &= number == VOTRIKANY_DONE && one == VOTRIKANY_DONE && two == VOTRIKANY_DONE && same(&whole, &cut);
+    }
+    return equal;
+}
+
+/* A journal from its first byte, from inside its lines, from around its end and from far beyond it. */
+static void as_many_calls(const uint8_t *text, size_t length, const char *what)
+{
+    const size_t places[] = { 0, 1, 2, 3, length / 3, length / 2, length - 1, length, length + 1, SIZE_MAX };
+    for (size_t i = 0; i < sizeof places / sizeof *places; i++) {
+        expect(each_number_of_words(text, length, places[i]), what);
+        expect(each_cut(text, length, places[i]), "two calls with the slots of one");
+    }
+}
+
+/* A journal that is made line by line. */
+static uint8_t mixed[8000];
+static size_t mixed_length;
+
+static void add_digits(size_t digits, const char *count)
+{
+    memset(mixed + mixed_length, '0', digits);
+    if (digits >= 34)
+        memcpy(mixed + mixed_length + 32, count, 2);
+    mixed_length += digits;
+    mixed[mixed_length++] = '\n';
+}
+
+static void add_sealed(size_t data, size_t message)
+{
+    static const uint8_t bytes[VOTRIKANY_MOST_MESSAGE] = { 7, 8, 9 };
+    uint8_t *end = mixed + mixed_length;
+    size_t size;
+    votrikany_write_line(key, nonce, bytes, data, bytes, message, end, sizeof mixed - mixed_length, &size);
+    mixed_length += size;
+}
+
+/* Each number of a line. */
+static void mix(void)
+{
+    mixed_length = 0;
+    add_sealed(1, 20), add_digits(0, ""), add_digits(707, "00"), add_sealed(2, 19), add_digits(5, "");
+    add_digits(64, "00"), add_digits(66, "41"), add_digits(66, "01"), add_digits(706, "00"), add_digits(66, "00");
+    add_digits(66, "0g"), add_sealed(64, 256);
+    mixed[mixed_length++] = '0';
+}
+
+static void many_equal_one_by_one(void)
+{
+    as_many_calls(NULL, 0, "no journal at null");
+    as_many_calls((const uint8_t *)"\n\n\n\n", 4, "roll marks alone");
+    as_many_calls((const uint8_t *)"0g\n\nabc", 7, "a bad digit, a roll mark and a cut line");
+    mixed_length = 0;
+    add_sealed(0, 0), add_sealed(64, 256), add_sealed(3, 2), add_sealed(5, 20), add_sealed(64, 0), add_sealed(0, 256);
+    as_many_calls(mixed, mixed_length, "good lines");
+    as_many_calls(mixed, mixed_length - 1, "good lines, the last one cut");
+    mixed[67 + 5] ^= 1;
+    as_many_calls(mixed, mixed_length, "a digit changed in the second line");
+    mixed[67 + 5] = '\n';
+    as_many_calls(mixed, mixed_length, "a newline in the second line");
+    mix();
+    as_many_calls(mixed, mixed_length, "each number of a line");
+}
+
+/* The slots of one call, said here and not by other calls. */
+static void slots_said(void)
+{
+    static const size_t three[6][SLOT] = {
+        { VOTRIKANY_NOT_DIGIT, 3, 0, 0, 1 }, { VOTRIKANY_ROLL_MARK, 4, 0, 0, 3 }, { VOTRIKANY_NO_NEWLINE, 7, 0, 0, 4 },
+        { VOTRIKANY_END, 7, 0, 0, 7 }, { VOTRIKANY_END, 7, 0, 0, 7 }, { VOTRIKANY_END, 7, 0, 0, 7 }
+    };
+    static const size_t beyond[2][SLOT] = {
+        { VOTRIKANY_PLACE_BEYOND, 8, 0, 0, 8 }, { VOTRIKANY_PLACE_BEYOND, 8, 0, 0, 8 }
+    };
+    static const uint8_t numbers[] = { 0, 16, 4, 0, 6, 7, 8, 9, 10, 1, 5, 0, 11 };
+    static struct lent lent;
+    const uint8_t *text = (const uint8_t *)"0g\n\nabc";
+    paint(&lent);
+    expect(read_lines(text, 7, 0, &lent, 30, 6 * FRAME) == VOTRIKANY_DONE, "six slots for three lines");
+    expect(memcmp(lent.words, three, sizeof three) == 0, "three answers, and three times the end");
+    expect(lent.next == 7 && all(lent.area + EDGE, 6 * FRAME, 0xaa), "the next place, and six frames of 0xaa");
+    paint(&lent);
+    expect(read_lines(text, 7, 8, &lent, 10, 2 * FRAME) == VOTRIKANY_DONE, "two slots from beyond the end");
+    expect(memcmp(lent.words, beyond, sizeof beyond) == 0 && lent.next == 8, "both say so, and the place is kept");
+    mix();
+    expect(read_lines(mixed, mixed_length, 0, &lent, WORDS, AREA) == VOTRIKANY_DONE, "a slot for each number");
+    for (size_t i = 0; i < sizeof numbers; i++)
+        expect(lent.words[i * SLOT] == numbers[i], "the number of a line among others");
+}
+
+static void slots_as_a_struct(void)
+{
+    struct votrikany_slot slots[3];
+    uint8_t frames[3 * FRAME], *second = frames + FRAME;
+    size_t next;
+    mixed_length = 0;
+    add_digits(0, ""), add_sealed(3, 2);
+    uint8_t gave = votrikany_read_lines(mixed, mixed_length, 0, key, (size_t *)slots, 3 * SLOT, frames, sizeof frames,
+                                        &next);
+    expect(gave == VOTRIKANY_DONE && next == 78 && slots[0].number == VOTRIKANY_ROLL_MARK, "the first of three slots");
+    expect(slots[1].number == VOTRIKANY_DONE && slots[1].next == 78, "an opened line's number and next place");
+    expect(slots[1].n == 3 && slots[1].m == 2 && slots[1].at == 1, "its n, its m and its place");
+    expect(memcmp(second, nonce, 16) == 0 && memcmp(second + 16, "\3\7\10\11\7\10", 6) == 0, "its frame");
+    expect(slots[2].number == VOTRIKANY_END && slots[2].next == 78 && slots[2].at == 78, "the end");
+}
+
+/* An area that does not fit its slots. */
+static void area_refused(const uint8_t *text, size_t length, size_t place, size_t words, size_t area,
+                         const char *what)
+{
+    static struct lent got, wanted;
+    const size_t slot[SLOT] = { VOTRIKANY_AREA_DIFFERS, place, 0, 0, place };
+    paint(&got), paint(&wanted);
+    for (size_t i = 0; i < words / SLOT; i++)
+        memcpy(wanted.words + i * SLOT, slot, sizeof slot);
+    memset(wanted.area + EDGE, 0xaa, area);
+    wanted.next = place;
+    expect(read_lines(text, length, place, &got, words, area) == VOTRIKANY_AREA_DIFFERS, what);
+    expect(memcmp(got.area, wanted.area, sizeof got.area) == 0, "the whole area is 0xaa, and what is around it kept");
+    expect(same(&got, &wanted), "every slot says 21, the place is kept, and so are the words behind");
+}
+
+static void areas_refused(void)
+{
+    static const size_t words[] = { 0, 1, 4, 5, 6, 9, 10, 14, 15, 60, 64 };
+    const uint8_t *text = (const uint8_t *)"0g\n\nabc\n";
+    for (size_t i = 0; i < sizeof words / sizeof *words; i++) {
+        size_t fits = words[i] / SLOT * FRAME;
+        const size_t areas[] = { 0, 1, 352, 353, fits - 1, fits + 1, fits - FRAME, fits + FRAME, words[i] * FRAME };
+        for (size_t k = 0; k < sizeof areas / sizeof *areas; k++)
+            if (areas[k] != fits && areas[k] <= AREA)
+                area_refused(text, 8, 3, words[i], areas[k], "an area that is not a frame for each slot");
+    }
+    area_refused(text, 8, 8, 10, 353, "21 comes before 14");
+    area_refused(text, 8, 9, 10, 353, "21 comes before 12");
+    area_refused(text, 8, SIZE_MAX, 10, 707, "21 comes before 12, from the place of all ones");
+    area_refused(text, 8, 0, 5, 352, "21 comes before 13");
+    area_refused(text, 7, 4, 5, 354, "21 comes before 11");
+    area_refused(NULL, 0, 0, 5, 0, "21 with no journal at null");
+    mix();
+    area_refused(mixed, mixed_length, 0, 10, 353, "a line that would be opened");
+}
+
+/* Null where there is nothing, and no slot to say anything. */
+static void many_at_null(void)
+{
+    static const size_t places[] = { 0, 3, 8, 9, SIZE_MAX };
+    const uint8_t *text = (const uint8_t *)"0g\n\nabc\n";
+    size_t words[9], next;
+    uint8_t area[FRAME];
+    for (size_t i = 0; i < sizeof places / sizeof *places; i++) {
+        next = 99;
+        uint8_t gave = votrikany_read_lines(text, 8, places[i], key, NULL, 0, NULL, 0, &next);
+        expect(gave == VOTRIKANY_DONE && next == places[i], "no slot at null: the place given");
+        next = 99;
+        gave = votrikany_read_lines(NULL, 0, places[i], key, NULL, 0, NULL, 0, &next);
+        expect(gave == VOTRIKANY_DONE && next == places[i], "no slot and no journal at null: the place given");
+    }
+    memset(words, 0x55, sizeof words);
+    uint8_t gave = votrikany_read_lines(text, 8, 3, key, words, 4, NULL, 0, &next);
+    expect(gave == VOTRIKANY_DONE && next == 3, "four words are no slot");
+    expect(all((const uint8_t *)words, sizeof words, 0x55), "they are kept");
+    gave = votrikany_read_lines(text, 8, 3, key, words, 9, NULL, 0, &next);
+    expect(gave == VOTRIKANY_AREA_DIFFERS && next == 3, "a slot, and no area at null");
+    expect(words[0] == 21 && words[1] == 3 && words[2] == 0 && words[3] == 0 && words[4] == 3, "the slot says so");
+    expect(all((const uint8_t *)(words + 5), 4 * sizeof *words, 0x55), "the words behind are kept");
+    gave = votrikany_read_lines(text, 8, 3, key, NULL, 0, area, sizeof area, &next);
+    expect(gave == VOTRIKANY_AREA_DIFFERS && next == 3 && all(area, sizeof area, 0xaa), "an area, and no slot at null");
+}
+
 /* A message at an odd address, as it can be in an opened frame, with room for a byte more. */
 static uint64_t even[3];
 static uint8_t *const reading = (uint8_t *)even + 1;
@@ -329,6 +567,11 @@ int main(void)
     bad_digits();
     every_bad_byte();
     opened();
+    many_equal_one_by_one();
+    slots_said();
+    slots_as_a_struct();
+    areas_refused();
+    many_at_null();
     readings_refused();
     readings_decoded();
     newer();

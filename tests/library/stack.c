@@ -1,4 +1,4 @@
-/* How much stack the eight functions need. Each call runs on a stack of its own that was painted before, twice, in two
+/* How much stack the nine functions need. Each call runs on a stack of its own that was painted before, twice, in two
  * colours: the bytes from the lowest one that has lost its paint up are counted, with what starting the call takes. */
 #define _XOPEN_SOURCE 700
 #include <stdio.h>
@@ -6,11 +6,13 @@
 #include <ucontext.h>
 #include "votrikany.h"
 
-enum { ROOM = 65536, LONG = 5000 };
+enum { ROOM = 65536, LONG = 5000, SLOTS = 8 };
 
 static const uint8_t key[16] = { 1, 2, 3 }, nonce[16] = { 4, 5, 6 };
 static uint8_t data[LONG], text[LONG], out[LONG], tag[16], line[800], frame[400], stack[ROOM];
-static size_t data_length, text_length, out_length, line_length, place, next, n, m, at;
+static uint8_t frames[SLOTS * VOTRIKANY_FRAME_SIZE];
+static struct votrikany_slot slots[SLOTS];
+static size_t data_length, text_length, out_length, line_length, frames_length, place, next, n, m, at;
 static double ratio;
 static uint32_t tick;
 static uint8_t number;
@@ -45,6 +47,12 @@ static void write_line(void)
 static void read_line(void)
 {
     number = votrikany_read_line(line, line_length, place, key, frame, sizeof frame, &next, &n, &m, &at);
+}
+
+static void read_lines(void)
+{
+    number = votrikany_read_lines(line, line_length, place, key, (size_t *)slots, SLOTS * VOTRIKANY_SLOT_SIZE, frames,
+                                  frames_length, &next);
 }
 
 static void decode(void)
@@ -91,6 +99,18 @@ static void measure(void (*call)(void), uint8_t wanted, const char *what)
     }
 }
 
+/* One line alone, and in the first of eight slots, which all are filled. */
+static void measure_reading(uint8_t wanted, const char *what)
+{
+    measure(read_line, wanted, what);
+    frames_length = sizeof frames;
+    measure(read_lines, VOTRIKANY_DONE, "read_lines");
+    if (slots[0].number != wanted) {
+        printf("stack: %s in a slot has the number %d and not %d\n", what, (int)slots[0].number, wanted);
+        failed = 1;
+    }
+}
+
 static void good(size_t data_bytes, size_t text_bytes)
 {
     data_length = data_bytes;
@@ -101,7 +121,7 @@ static void good(size_t data_bytes, size_t text_bytes)
     measure(open_sealed, 0, "open");
     if (data_bytes <= VOTRIKANY_MOST_DATA && text_bytes <= VOTRIKANY_MOST_MESSAGE) {
         measure(write_line, 0, "write_line");
-        measure(read_line, 0, "read_line");
+        measure_reading(VOTRIKANY_DONE, "read_line");
     }
 }
 
@@ -130,7 +150,7 @@ static void line_refused(size_t digits, size_t at, char byte, uint8_t wanted, co
     line[at] = (uint8_t)byte;
     line[digits] = '\n';
     line_length = digits + 1;
-    measure(read_line, wanted, what);
+    measure_reading(wanted, what);
 }
 
 static void journal_refused(void)
@@ -145,12 +165,14 @@ static void journal_refused(void)
     line_refused(706, 0, '0', VOTRIKANY_MESSAGE_TOO_LONG, "m = 320");
     line_refused(706, 32, '4', VOTRIKANY_TAG_DIFFERS, "n = 64, m = 256, and a tag of zeros");
     place = line_length;
-    measure(read_line, VOTRIKANY_END, "the end");
+    measure_reading(VOTRIKANY_END, "the end");
     place = line_length + 1;
-    measure(read_line, VOTRIKANY_PLACE_BEYOND, "a place beyond the end");
+    measure_reading(VOTRIKANY_PLACE_BEYOND, "a place beyond the end");
     place = 0;
     line_length--;
-    measure(read_line, VOTRIKANY_NO_NEWLINE, "no newline");
+    measure_reading(VOTRIKANY_NO_NEWLINE, "no newline");
+    frames_length--;
+    measure(read_lines, VOTRIKANY_AREA_DIFFERS, "an area of a byte less");
     data_length = 65;
     measure(write_line, VOTRIKANY_DATA_TOO_LONG, "65 bytes of data");
 }

@@ -1,8 +1,13 @@
 //! The functions of libexport.a, as include/votrikany.h declares them, and a safe function for each.
 //!
 //! What the header asks of a caller is met by the types: a reference is never null and points to what its type says, a
-//! slice's pointer to as many bytes as its length says, and nothing that is lent `&mut` overlaps anything else.
+//! slice's pointer to as many elements as its length says, and nothing that is lent `&mut` overlaps anything else.
+use crate::journal::{Frame, FRAME_SIZE};
 use crate::{Key, Nonce, Tag};
+
+/// The words of an answer of `read_lines`: number, next place, n, m and the answer's own place.
+pub const SLOT_SIZE: usize = 5;
+pub type Slot = [usize; SLOT_SIZE];
 
 #[link(name = "export", kind = "static")]
 extern "C" {
@@ -70,6 +75,17 @@ extern "C" {
         n: *mut usize,
         m: *mut usize,
         at: *mut usize,
+    ) -> u8;
+    fn votrikany_read_lines(
+        journal: *const u8,
+        journal_length: usize,
+        place: usize,
+        key: *const u8,
+        slots: *mut usize,
+        slots_length: usize,
+        frames: *mut u8,
+        frames_length: usize,
+        next: *mut usize,
     ) -> u8;
     fn votrikany_decode(
         message: *const u8,
@@ -194,6 +210,31 @@ pub fn read_line(
             n,
             m,
             at,
+        )
+    }
+}
+
+/// Arrays stand in a slice one behind the other with nothing between, so it is as many words, or bytes, as they have
+/// together. No product wraps: each counts what is in memory.
+pub fn read_lines(
+    journal: &[u8],
+    place: usize,
+    key: &Key,
+    slots: &mut [Slot],
+    frames: &mut [Frame],
+    next: &mut usize,
+) -> u8 {
+    unsafe {
+        votrikany_read_lines(
+            journal.as_ptr(),
+            journal.len(),
+            place,
+            key.as_ptr(),
+            slots.as_mut_ptr().cast(),
+            SLOT_SIZE * slots.len(),
+            frames.as_mut_ptr().cast(),
+            FRAME_SIZE * frames.len(),
+            next,
         )
     }
 }

@@ -12,6 +12,7 @@ table =
       most = (refl, refl);
       most-frame = refl;
       most-digits = refl;
+      slot = refl;
       fill = refl;
       limit = refl;
     }

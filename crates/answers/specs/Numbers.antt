@@ -69,6 +69,10 @@ lineTooSmall = 15
 abbrev pub rollMark : ℕ
 rollMark = 16
 
+-- the frame area is not 353 times the number of slots
+abbrev pub areaDiffers : ℕ
+areaDiffers = 21
+
 -- each is below: the listing counts on two digits
 abbrev pub numbersBelow : ℕ
 numbersBelow = 100

@@ -35,3 +35,7 @@ mostFrame = 353
 -- a line's digits, without the newline
 abbrev pub mostDigits : ℕ
 mostDigits = 706
+
+-- a slot's words: number, next place, n, m, and the answer's own place
+abbrev pub slotSize : ℕ
+slotSize = 5

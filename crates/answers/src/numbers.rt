@@ -33,3 +33,5 @@ pub const END: u8 = 14;
 pub const LINE_TOO_SMALL: u8 = 15;
 
 pub const ROLL_MARK: u8 = 16;
+
+pub const AREA_DIFFERS: u8 = 21;

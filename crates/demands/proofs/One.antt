@@ -1,6 +1,7 @@
 -- Demand 1, from the answers of the entry points.
 use Rattle.morus.proofs.Answers as cipher
 use Rattle.journal.proofs.Answers.{text-outcome, read-outcome, write-outcome, order}
+use Rattle.journal.proofs.ManyLines.{many-answered}
 use Rattle.reading.proofs.Answers.{answered}
 use Rattle.demands.specs.One.{Demand1}
 
@@ -13,6 +14,7 @@ demand1 =
       decrypt = λ nonce key d c t out s. cipher.decrypt nonce key d c t out s;
       read-line = λ j place key frame h. read-outcome h;
       read-text = λ text key frame h. text-outcome h;
+      read-lines = λ j place key slots frames h. many-answered h;
       write-line = λ key nonce ad message line h. write-outcome h;
       decode = λ m h b. answered m h b;
       order = order;

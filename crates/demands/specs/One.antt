@@ -2,7 +2,8 @@
 -- tests/gate-promises reads. Every call ends: a proof of a function is a proof that it returns.
 -- Bad input gets the number of the table. After any refused opening every byte of the output buffer is 0xaa; after a
 -- refused sealing it is untouched and the tag is zero. Each number with literals, every earlier test negated, and the
--- place that the reader says with it, is in Answers of the crates morus, run, journal and reading.
+-- place that the reader says with it, is in Answers of the crates morus, run, journal and reading, and of many lines in
+-- one call in ManyLines of journal.
 use Prim.Native.Nat.{ℕ}
 use mathlib.Core.List.{List}
 use Rattle.morus.specs.declared.Sealed.{Sealed}
@@ -11,7 +12,10 @@ use Rattle.morus.specs.Answers.{SealOutcome, OpenOutcome}
 use Rattle.journal.specs.declared.Verdict.{Verdict}
 use Rattle.journal.specs.declared.Answer.{Answer}
 use Rattle.journal.specs.declared.Line.{Line}
+use Rattle.journal.specs.declared.Many.{Many}
 use Rattle.journal.specs.Promise.{TextRead, LineRead, LineWritten}
+use Rattle.journal.specs.Slots.{LinesRead}
+use Rattle.journal.specs.ManyLines.{ManyAnswer}
 use Rattle.journal.specs.Answers.{TextOutcome, ReadOutcome, WriteOutcome, Order}
 use Rattle.reading.specs.declared.Decoded.{Decoded}
 use Rattle.reading.specs.Reading.{IsDecoded}
@@ -33,6 +37,9 @@ pub record Demand1 : Type 0 where
       → LineRead j place key frame r frame' → ReadOutcome j place key frame r frame'
   pub read-text : (text key frame : List ℕ) {r : Verdict} {frame' : List ℕ}
       → TextRead text key frame r frame' → TextOutcome text key frame r frame'
+  -- many lines: 21 before all others, and else the reader's answer in each slot
+  pub read-lines : (j : List ℕ) (place : ℕ) (key slots frames : List ℕ) {r : Many} {slots' frames' : List ℕ}
+      → LinesRead j place key slots frames r slots' frames' → ManyAnswer key j place slots frames r slots' frames'
   -- the writer: 8, 10, 15
   pub write-line : (key nonce ad message line : List ℕ) {r : Line} {line' : List ℕ}
       → LineWritten key nonce ad message line r line' → WriteOutcome key nonce ad message line r line'

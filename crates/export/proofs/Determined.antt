@@ -6,9 +6,10 @@ use Prim.Native.Nat.{ℕ}
 use lib.Ieee.{Float}
 use Rattle.journal.specs.declared.Line.{Line}
 use Rattle.journal.specs.declared.Answer.{Answer}
+use Rattle.journal.specs.declared.Many.{Many}
 use Rattle.reading.specs.Reading.{Value}
 use Rattle.export.specs.Promise.{SealedInPlace, OpenedInPlace, SealedInto, OpenedInto}
-use Rattle.export.specs.Promise.{Wrote, Read, Decodes, Newer}
+use Rattle.export.specs.Promise.{Wrote, Read, ReadMany, Decodes, Newer}
 
 module _ (key nonce ad : List ℕ) where
   pub votrikany-seal-in-place : (text : List ℕ) {r₁ r₂ : ℕ} {x₁ x₂ t₁ t₂ : List ℕ}
@@ -45,6 +46,18 @@ votrikany-read-line journal place key frame p q =
       ap (λ (a : Answer). a .n) e,
       ap (λ (a : Answer). a .m) e,
       ap (λ (a : Answer). a .at) e,
+    )
+
+pub votrikany-read-lines : (journal : List ℕ) (place : ℕ) (key slots frames : List ℕ) {r₁ r₂ : ℕ}
+    {x₁ x₂ y₁ y₂ : List ℕ} {p₁ p₂ : ℕ}
+    → ReadMany journal place key slots frames r₁ x₁ y₁ p₁ → ReadMany journal place key slots frames r₂ x₂ y₂ p₂
+    → (r₁ ≡ r₂) × (x₁ ≡ x₂) × (y₁ ≡ y₂) × (p₁ ≡ p₂)
+votrikany-read-lines journal place key slots frames p q =
+    let e = p .report ∙ sym (q .report) in (
+      ap (λ (m : Many). m .number) e,
+      p .words ∙ sym (q .words),
+      p .area ∙ sym (q .area),
+      ap (λ (m : Many). m .next) e,
     )
 
 pub votrikany-decode : (message : List ℕ) {r₁ r₂ : ℕ} {x₁ x₂ : Float} {t₁ t₂ : ℕ}

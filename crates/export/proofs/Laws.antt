@@ -3,16 +3,23 @@
 use Prim.Native.Nat.{ℕ}
 use mathlib.Core.Path.{_≡_, refl, sym, ap, _∙_}
 use mathlib.Core.Logic.{inl, inr}
-use mathlib.Core.List.{List}
+use mathlib.Core.List.{List, [], _++_, append-nil}
 use native.Mathlib.Omega.{arith}
 use lib.Ieee.{Float, toBits, ofBits, lt}
-use lib.ListN.{length}
+use lib.ListN.{length, take}
 use Rattle.morus.specs.Seal.{seal, sealTag, unseal}
 use Rattle.morus.specs.Answers.{Short, SealAnswer, OpenAnswer}
 use Rattle.morus.proofs.Answers as cipher
 use Rattle.morus.proofs.Laws.{seal-length, back}
+use Rattle.run.specs.Turns.{inTurn, placeAfter}
 use Rattle.journal.specs.declared.Answer.{Answer}
+use Rattle.journal.specs.declared.Many.{Many}
+use Rattle.journal.specs.Reader.{readAt}
+use Rattle.journal.specs.Promise.{answerOf, LineRead}
+use Rattle.journal.specs.Slots.{slotOf, slotsOf, framesOf}
+use Rattle.journal.specs.ManyLines.{Whole}
 use Rattle.journal.proofs.Answers.{read-outcome, write-outcome}
+use Rattle.journal.proofs.ManyLines.{given, many-answered}
 use Rattle.journal.proofs.RoundTrip.{handed-out}
 use Rattle.reading.specs.declared.Decoded.{Decoded}
 use Rattle.reading.specs.declared.Decoded.the-variants.{Ratio, Refused}
@@ -64,6 +71,7 @@ reading-answer message (Refused k) p a q =
     (ReadingAnswer.refused a refl tt)
 
 pub functions : Functions
+unfolding inTurn placeAfter slotsOf framesOf
 functions =
     record {
       seal-in-place = λ key nonce ad text s. cipher.encrypt-in-place _ _ ad text s .answer;
@@ -72,6 +80,7 @@ functions =
       open-into = λ key nonce ad text tag out o. cipher.decrypt _ _ ad text tag out o .answer;
       write-line = λ key nonce ad message line w. write-outcome w .answer;
       read-line = λ journal key frame place r. read-outcome r .answer;
+      read-lines = λ journal key slots frames place r. many-answered r;
       decode = λ message b q.
           let o = outcome message in
           reading-answer message (o .decoded) (o .is) (answered message (o .is) b) q;
@@ -92,5 +101,21 @@ functions =
             m = ap (λ (x : Answer). x .m) a;
             at = ap (λ (x : Answer). x .at) a;
             buffer = h .1;
+          };
+      slot-back = λ key nonce ad message line slots frames P T {size} {line' = line'} l bn ba bm s f w r.
+          let W : Whole slots 1 [] =
+          record { words = slots; is = sym (append-nil slots); five = s; few = omega arith } in
+          let g = given W f r in
+          let j = P ++ (take size line' ++ T) in
+          let x = readAt key j (length P) 353 in
+          let c : LineRead j (length P) key frames (answerOf x) (x .verdict .buffer) =
+          record { answer = rw f; buffer = rw f } in
+          let h = handed-out l bn ba bm w refl P T (omega arith) c in
+          let a = h .0 in
+          record {
+            done = ap (λ (x : Many). x .number) (g .report);
+            next = ap (λ (x : Many). x .next) (g .report) ∙ ap (λ (x : Answer). x .next) a;
+            words = g .words ∙ ap slotOf a;
+            frame = g .area ∙ rw append-nil (rw f at (h .1));
           };
     }

@@ -4,7 +4,7 @@
 use Prim.Native.Nat.{ℕ, _+_, _-_, _≤_, _<_}
 use mathlib.Core.Path.{_≡_}
 use mathlib.Core.Bool.{Bool, false}
-use mathlib.Core.List.{List, _∷_, _++_}
+use mathlib.Core.List.{List, [], _∷_, _++_}
 use lib.Dec.{T}
 use lib.IntN.{pos}
 use lib.Ieee.{Float, fin, binary64, toBits, lt}
@@ -14,11 +14,12 @@ use Rattle.morus.specs.Seal.{sealTag}
 use Rattle.morus.specs.Answers.{SealAnswer, OpenAnswer}
 use Rattle.run.specs.Read.{reading}
 use Rattle.journal.specs.Answers.{ReadAnswer, WriteAnswer}
+use Rattle.journal.specs.ManyLines.{ManyAnswer}
 use Rattle.reading.specs.declared.Decoded.the-variants.{Ratio, Refused}
 use Rattle.reading.specs.Answers.{DecodeAnswer, NewerAnswer}
 use Rattle.reading.specs.Laws.{plain}
 use Rattle.export.specs.Promise.{SealedInPlace, OpenedInPlace, SealedInto, OpenedInto}
-use Rattle.export.specs.Promise.{Wrote, Read, Decodes, Newer}
+use Rattle.export.specs.Promise.{Wrote, Read, ReadMany, Decodes, Newer}
 
 -- what was sealed is opened
 pub record Back (text : List ℕ) (number : ℕ) (out' : List ℕ) : Type 0 where
@@ -37,6 +38,16 @@ pub record ReadBack (key nonce ad message frame : List ℕ) (place size : ℕ)
       ≡ (nonce ++ length ad ∷ (ad ++ (message ++ sealTag key nonce ad message)))
       ++ replicate (length frame - (33 + length ad + length message)) 170
 
+-- the same with one slot of many lines: its five words, and the area is its frame
+pub record SlotBack (key nonce ad message : List ℕ) (place size : ℕ)
+    (number : ℕ) (slots' frames' : List ℕ) (next' : ℕ) : Type 0 where
+  pub done : number ≡ 0
+  pub next : next' ≡ place + size
+  pub words : slots' ≡ 0 ∷ (place + size) ∷ length ad ∷ length message ∷ place ∷ []
+  pub frame : frames'
+      ≡ (nonce ++ length ad ∷ (ad ++ (message ++ sealTag key nonce ad message)))
+      ++ replicate (353 - (33 + length ad + length message)) 170
+
 -- a reading: the ratio and the tick of the decoding's answer, no NaN and without a sign, so that its bytes are fixed;
 -- or its number, and then every byte behind the pointers is 0xaa, which is no ratio: it is below zero
 pub data ReadingAnswer (message : List ℕ) : (number : ℕ) (ratio' : Float) (tick' : ℕ) → Type 0 where
@@ -46,7 +57,7 @@ pub data ReadingAnswer (message : List ℕ) : (number : ℕ) (ratio' : Float) (t
       → toBits binary64 ratio' ≡ 0xaaaaaaaaaaaaaaaa → T (lt ratio' (fin false 0 (pos 0)))
       → ReadingAnswer message number ratio' 0xaaaaaaaa
 
--- whatever the promises of the eight functions allow
+-- whatever the promises of the nine functions allow
 pub record Functions : Type 0 where
   pub seal-in-place : (key nonce ad text : List ℕ) {number : ℕ} {text' tag' : List ℕ}
       → SealedInPlace key nonce ad text number text' tag' → SealAnswer key nonce ad text text number tag' text'
@@ -62,6 +73,9 @@ pub record Functions : Type 0 where
       → Read journal place key frame number frame' next' n' m' at'
       → ReadAnswer key journal place (length frame)
       (reading (record { number = number; n = n'; m = m'; at = at'; buffer = frame' }) next')
+  pub read-lines : (journal key slots frames : List ℕ) (place : ℕ) {number next' : ℕ} {slots' frames' : List ℕ}
+      → ReadMany journal place key slots frames number slots' frames' next'
+      → ManyAnswer key journal place slots frames (record { number = number; next = next' }) slots' frames'
   pub decode : (message : List ℕ) {number tick' : ℕ} {ratio' : Float} → Bytes message
       → Decodes message number ratio' tick' → ReadingAnswer message number ratio' tick'
   pub newer : (a b : ℕ) {newer : Bool} → a < 4294967296 → b < 4294967296 → Newer a b newer → NewerAnswer a b newer
@@ -78,3 +92,9 @@ pub record Functions : Type 0 where
       → Wrote key nonce ad message line 0 line' size
       → Read (P ++ (take size line' ++ T)) (length P) key frame number frame' next' n' m' at'
       → ReadBack key nonce ad message frame (length P) size number frame' next' n' m' at'
+  pub slot-back : (key nonce ad message line slots frames P T : List ℕ)
+      {size number next' : ℕ} {line' slots' frames' : List ℕ}
+      → length nonce ≡ 16 → Bytes nonce → Bytes ad → Bytes message → length slots ≡ 5 → length frames ≡ 353
+      → Wrote key nonce ad message line 0 line' size
+      → ReadMany (P ++ (take size line' ++ T)) (length P) key slots frames number slots' frames' next'
+      → SlotBack key nonce ad message (length P) size number slots' frames' next'

@@ -7,6 +7,7 @@ use mathlib.Core.List.{List, [], _∷_}
 use lib.Ieee.{Float, binary64, ofBits}
 use Rattle.morus.specs.Morus.{begun, Encrypted, Decrypted, EncryptedInto, DecryptedInto}
 use Rattle.journal.specs.Promise.{LineWritten, LineRead}
+use Rattle.journal.specs.Slots.{LinesRead}
 use Rattle.reading.specs.Reading.{Value, answer, values}
 use Rattle.reading.specs.Ticks.{newerThan}
 
@@ -36,6 +37,12 @@ abbrev pub Read : (journal : List ℕ) → (place : ℕ) → (key frame : List �
     → (next' n' m' at' : ℕ) → Type 0
 Read journal place key frame number frame' next' n' m' at' =
     LineRead journal place key frame (record { number = number; next = next'; n = n'; m = m'; at = at' }) frame'
+
+-- many lines read: the number is the result, the next place stands behind its pointer
+abbrev pub ReadMany : (journal : List ℕ) → (place : ℕ) → (key slots frames : List ℕ) → (number : ℕ)
+    → (slots' frames' : List ℕ) → (next' : ℕ) → Type 0
+ReadMany journal place key slots frames number slots' frames' next' =
+    LinesRead journal place key slots frames (record { number = number; next = next' }) slots' frames'
 
 -- what stands behind the pointers: the one value, or where there is none 0xaa in every byte
 abbrev pub handed : List Value → Value

@@ -1,13 +1,14 @@
 // The functions for C and Rust: numbers, byte slices and sixteen bytes behind a pointer go in. The answer's number is the
 // result, and whatever else is handed out goes through `&mut`. Each is a few lines over the proved function.
 use journal::read_line;
+use journal::read_lines;
 use journal::write_line;
 use morus::Morus;
 use morus::Sealed;
 use reading::Decoded;
 ghost use mathlib.Core.Path.{_≡_};
 ghost use Rattle.export.specs.Promise.{SealedInPlace, OpenedInPlace, SealedInto, OpenedInto};
-ghost use Rattle.export.specs.Promise.{Wrote, Read, Decodes, Newer};
+ghost use Rattle.export.specs.Promise.{Wrote, Read, ReadMany, Decodes, Newer};
 
 // A sealing's tag behind its pointer, and its number.
 fn stored(sealed: Sealed, tag: &mut [u8; 16]) -> u8
@@ -120,6 +121,24 @@ pub extern "C" fn votrikany_read_line(
     *m = answer.m;
     *at = answer.at;
     answer.number
+}
+
+#[no_mangle]
+pub extern "C" fn votrikany_read_lines(
+    journal: &[u8],
+    place: usize,
+    key: &[u8; 16],
+    slots: &mut [usize],
+    frames: &mut [u8],
+    next: &mut usize,
+) -> u8
+    ensures { λ r. ⌜ ReadMany (now (journal .entry)) place (now (key .entry)) (now (slots .entry)) (now (frames .entry))
+        r (now (slots .exit)) (now (frames .exit)) (now (next .exit)) ⌝ }
+{
+    let k = *key;
+    let many = read_lines(journal, place, k, slots, frames);
+    *next = many.next;
+    many.number
 }
 
 // Where there is no ratio every byte is 0xaa, as after a refused opening: a number below zero, which no ratio is.

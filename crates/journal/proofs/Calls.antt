@@ -14,11 +14,11 @@ use Rattle.journal.specs.Promise.{answerOf, readingOf, Called}
 use Rattle.journal.proofs.Rows.{not-end}
 
 module _ (key : List ℕ) (size : ℕ) (j : List ℕ) where
-  call-is : (p : ℕ) (x : Reading) → Called key j size p x → x ≡ readAt key j p size
+  pub call-is : (p : ℕ) (x : Reading) → Called key j size p x → x ≡ readAt key j p size
   call-is p x c =
       c .is ∙ ap₂ readingOf (c .read .answer) (c .read .buffer) ∙ ap (λ (s : ℕ). readAt key j p s) (c .sized)
 
-  called : (p : ℕ) → Called key j size p (readAt key j p size)
+  pub called : (p : ℕ) → Called key j size p (readAt key j p size)
   called p = record {
     frame = replicate size 0;
     frame' = readAt key j p size .verdict .buffer;

@@ -5,7 +5,9 @@ use mathlib.Core.List.{List}
 use Rattle.journal.specs.declared.Verdict.{Verdict}
 use Rattle.journal.specs.declared.Answer.{Answer}
 use Rattle.journal.specs.declared.Line.{Line}
+use Rattle.journal.specs.declared.Many.{Many}
 use Rattle.journal.specs.Promise.{LineWritten, TextRead, LineRead}
+use Rattle.journal.specs.Slots.{LinesRead}
 
 pub write-line : {key nonce ad message line line₁ line₂ : List ℕ} {r₁ r₂ : Line}
     → LineWritten key nonce ad message line r₁ line₁
@@ -24,3 +26,9 @@ pub read-line : {journal key frame frame₁ frame₂ : List ℕ} {place : ℕ} {
     → LineRead journal place key frame r₂ frame₂
     → (r₁ ≡ r₂) × (frame₁ ≡ frame₂)
 read-line a b = (a .answer ∙ sym (b .answer), a .buffer ∙ sym (b .buffer))
+
+pub read-lines : {journal key slots frames slots₁ slots₂ frames₁ frames₂ : List ℕ} {place : ℕ} {r₁ r₂ : Many}
+    → LinesRead journal place key slots frames r₁ slots₁ frames₁
+    → LinesRead journal place key slots frames r₂ slots₂ frames₂
+    → (r₁ ≡ r₂) × (slots₁ ≡ slots₂) × (frames₁ ≡ frames₂)
+read-lines a b = (a .report ∙ sym (b .report), a .words ∙ sym (b .words), a .area ∙ sym (b .area))

@@ -18,7 +18,7 @@ use Rattle.run.proofs.Rows.{too-small}
 use Rattle.journal.specs.Line.{Fits, Made}
 use Rattle.journal.specs.Reader.{readText, readAt}
 use Rattle.journal.specs.Claims.{handed}
-use Rattle.journal.specs.Promise.{LineRead}
+use Rattle.journal.specs.Promise.{answerOf, LineRead}
 use Rattle.journal.proofs.Frames.{frame-length}
 use Rattle.journal.proofs.Opened.{hands-out, opened-exactly}
 use Rattle.journal.proofs.Refused.{not-opened}
@@ -59,3 +59,13 @@ keeps-length {j} {key} {frame} {frame'} {place} {r} h = go (r .number) refl (ltb
         ap length (h .buffer ∙ ap (λ (x : Reading). x .verdict .buffer) (hands-out key (length frame) big j place M))
         ∙ handed-length key (M .nonce) (M .ad) (M .message) place (length frame) (M .fits) big
     go (suc k) e b t = ap length (not-opened h (omega arith) .fill) ∙ length-replicate (length frame) 170
+
+-- so it is by the definition
+pub read-length : (key j : List ℕ) (place size : ℕ) → length (readAt key j place size .verdict .buffer) ≡ size
+read-length key j place size =
+    let frame : List ℕ = replicate size 0 in
+    let e : length frame ≡ size = length-replicate size 0 in
+    let x = readAt key j place size in
+    let h : LineRead j place key frame (answerOf x) (x .verdict .buffer) =
+    record { answer = rw e; buffer = rw e } in
+    keeps-length h ∙ e

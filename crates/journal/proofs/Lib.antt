@@ -16,3 +16,6 @@ pub mod Promised
 pub mod RoundTrip
 pub mod Kept
 pub mod Determined
+pub mod Slotted
+pub mod ManyLines
+pub mod Examples

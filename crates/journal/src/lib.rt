@@ -2,10 +2,12 @@
 mod frame;
 mod reader;
 mod refusal;
+mod slots;
 mod text;
 mod writer;
 
 pub use reader::read_line;
+pub use slots::read_lines;
 pub use text::read_text;
 pub use writer::write_line;
 
@@ -32,4 +34,10 @@ pub struct Answer {
     pub n: usize,
     pub m: usize,
     pub at: usize,
+}
+
+// What reading many lines answers: a number, and the next place.
+pub struct Many {
+    pub number: u8,
+    pub next: usize,
 }

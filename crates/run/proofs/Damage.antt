@@ -16,7 +16,7 @@ use Rattle.run.specs.Claims.{NotEnd, Every, Pairwise, Before, Alike}
 use Rattle.run.proofs.Newline.{Plain, newlineAt-le, textOf-plain, cut}
 use Rattle.run.proofs.Run.{one-line}
 
-abbrev UpTo : ℕ → List Entry → Type 0
+abbrev pub UpTo : ℕ → List Entry → Type 0
 UpTo p = Every (λ (e : Entry). e .place ≤ p)
 
 shift-shift : (a b c : ℕ) (e : Entry) → a + b ≡ c → shiftEntry a (shiftEntry b e) ≡ shiftEntry c e
@@ -37,7 +37,7 @@ unfolding answersFrom
 from-behind p [] post b = refl
 from-behind p (e ∷ es) post b = rw (lt-leb (p + 1) (e .place) (omega arith)) (from-behind p es post (b .1))
 
-from-shifted : (p : ℕ) (l : List Entry) → answersFrom p (map (shiftEntry p) l) ≡ map (shiftEntry p) l
+pub from-shifted : (p : ℕ) (l : List Entry) → answersFrom p (map (shiftEntry p) l) ≡ map (shiftEntry p) l
 unfolding answersFrom shiftEntry
 from-shifted p [] = refl
 from-shifted p (e ∷ es) = rw (le-leb p (p + e .place) (omega arith), from-shifted p es)
@@ -47,26 +47,28 @@ unfolding answersBefore
 before-here p [] post b = refl
 before-here p (e ∷ es) post b = rw (lt-ltb (e .place) (p + 1) (omega arith), before-here p es post (b .1))
 
-before-shifted : (p : ℕ) (l : List Entry) → answersBefore p (map (shiftEntry p) l) ≡ []
+pub before-shifted : (p : ℕ) (l : List Entry) → answersBefore p (map (shiftEntry p) l) ≡ []
 unfolding answersBefore shiftEntry
 before-shifted p [] = refl
 before-shifted p (e ∷ es) = rw (le-ltb (p + e .place) p (omega arith), before-shifted p es)
 
-alike : (a b : ℕ) (l : List Entry) → Pairwise (Alike a b) (map (shiftEntry (a + 1)) l) (map (shiftEntry (b + 1)) l)
+-- one line behind a bytes and behind b bytes, each with a newline
+pub alike-one : (a b : ℕ) (e : Entry) → Alike a b (shiftEntry (a + 1) e) (shiftEntry (b + 1) e)
 unfolding shiftEntry shift moved
+alike-one a b e =
+    record {
+      number = refl;
+      n = refl;
+      m = refl;
+      buffer = refl;
+      place = omega arith;
+      next = omega arith;
+      at = omega arith;
+    }
+
+alike : (a b : ℕ) (l : List Entry) → Pairwise (Alike a b) (map (shiftEntry (a + 1)) l) (map (shiftEntry (b + 1)) l)
 alike a b [] = tt
-alike a b (e ∷ es) = (
-  record {
-    number = refl;
-    n = refl;
-    m = refl;
-    buffer = refl;
-    place = omega arith;
-    next = omega arith;
-    at = omega arith;
-  },
-  alike a b es,
-)
+alike a b (e ∷ es) = (alike-one a b e, alike a b es)
 
 module _ (read : Reader) (not-end : NotEnd read) (size : ℕ) (big : mostFrame ≤ size) where
   plain-before : (A : List ℕ) → Plain A → Before read size A

@@ -24,6 +24,12 @@ Pairwise R [] (y ∷ ys) = ⊥
 Pairwise R (x ∷ xs) [] = ⊥
 Pairwise R (x ∷ xs) (y ∷ ys) = R x y × Pairwise R xs ys
 
+-- each pair as R says, as far as both lists go
+abbrev pub AsFar : (Entry → Entry → Type 0) → List Entry → List Entry → Type 0
+AsFar R [] ys = Unit {0}
+AsFar R (x ∷ xs) [] = Unit {0}
+AsFar R (x ∷ xs) (y ∷ ys) = R x y × AsFar R xs ys
+
 -- a reading from place p inside the journal moves forward, to at most its length, and is not the end answer
 pub record Moves (j : List ℕ) (p number next : ℕ) : Type 0 where
   pub ahead : p < next
@@ -37,11 +43,22 @@ pub data Calls (Call : ℕ → Reading → Type 0) : ℕ → List Entry → Type
   more : {place : ℕ} {x : Reading} {es : List Entry} → Call place x → (x .verdict .number ≡ 14 → ⊥)
       → Calls Call (x .next) es → Calls Call place (entry place x ∷ es)
 
+-- Calls from a place on, each but the first from the next place of the one before it; what they gave, and the place
+-- that the last gave. `Call` is what a call at a place may give.
+pub data Turns (Call : ℕ → Reading → Type 0) : (place : ℕ) → List Entry → (after : ℕ) → Type 0 where
+  none : {place : ℕ} → Turns Call place [] place
+  more : {place after : ℕ} {x : Reading} {es : List Entry} → Call place x → Turns Call (x .next) es after
+      → Turns Call place (entry place x ∷ es) after
+
+-- the end answer of a journal
+abbrev pub ended : (journal : List ℕ) → (size : ℕ) → Entry
+ended j size = entry (length j) (reading (blank 14 (length j) size) (length j))
+
 -- the run ends by call L + 1, in the end answer and no sooner
 pub record Ends (read : Reader) (j : List ℕ) (size : ℕ) : Type 0 where
   pub before : List Entry
   pub no-sooner : Every (λ (e : Entry). e .reading .verdict .number ≡ end → ⊥) before
-  pub splits : run read j size ≡ before ++ (entry (length j) (reading (blank 14 (length j) size) (length j)) ∷ [])
+  pub splits : run read j size ≡ before ++ (ended j size ∷ [])
   pub calls : length (run read j size) ≤ length j + 1
 
 -- the answers to the lines of A: they depend on A alone, and stand before those of whatever comes after A and a newline
@@ -60,6 +77,10 @@ pub record Alike (a b : ℕ) (x y : Entry) : Type 0 where
   pub place : x .place + b ≡ y .place + a
   pub next : x .reading .next + b ≡ y .reading .next + a
   pub at : x .reading .verdict .at + b ≡ y .reading .verdict .at + a
+
+-- where they are answers to one line, matched by its place, they are alike
+abbrev pub SameLine : (a b : ℕ) → (x y : Entry) → Type 0
+SameLine a b x y = a + 1 ≤ x .place → x .place + b ≡ y .place + a → Alike a b x y
 
 -- a buffer of `size` bytes, each of them 170; no data and no message
 pub record Blank (size n m : ℕ) (buffer : List ℕ) : Type 0 where
