@@ -98,11 +98,11 @@ def damaged(rng, text):
     return bad_digits(rng, text)
 
 
-def journal(rng, lines):
+def journal(rng, lines, most=8):
     """Some of the lines, some damaged, some with a roll mark before or behind, in at most LIMIT bytes; sometimes the
     last newline is lost."""
     out = b""
-    for _ in range(rng.randrange(9)):
+    for _ in range(rng.randrange(most + 1)):
         text = rng.choice(lines)
         if rng.randrange(2):
             text = damaged(rng, text)
@@ -120,12 +120,14 @@ def places(rng, text):
     return starts + others
 
 
+def starts_line(text, place):
+    """Whether a line starts at the place; the text is in digits, as a case has it."""
+    return place == 0 or text[2 * place - 2:2 * place] == b"0a"
+
+
 def roll_mark(case, answer):
     """Whether an empty line is read. The place of any line's newline is answered with 16 too, and does not count."""
-    if not answer.startswith(b"16 "):
-        return False
-    place, text = int(case.split(b" ")[2]), case.split(b" ")[4]
-    return place == 0 or text[2 * place - 2:2 * place] == b"0a"
+    return answer.startswith(b"16 ") and starts_line(case.split(b" ")[4], int(case.split(b" ")[2]))
 
 
 def random_cases(count, seed, ask):

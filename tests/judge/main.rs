@@ -12,6 +12,9 @@ use std::io::{Read, Write};
 /// What a lent buffer holds before the call.
 const BEFORE: u8 = 0x55;
 
+/// What each number of a lent slot is before the call.
+const UNSET: usize = 7;
+
 fn bytes(word: &str) -> Vec<u8> {
     if word == "-" {
         return Vec::new();
@@ -103,6 +106,15 @@ fn read(w: &[&str]) -> String {
     format!("{} {} {} {} {} {}", a.number, a.next, a.n, a.m, a.at, digits(&frame))
 }
 
+/// The slots' numbers are written as they stand, five for each.
+fn many(w: &[&str]) -> String {
+    let mut slots = vec![UNSET; 5 * number(w[3])];
+    let mut frames = vec![BEFORE; number(w[4])];
+    let a = journal::read_lines(&bytes(w[5]), number(w[2]), &sixteen(w[1]), &mut slots, &mut frames);
+    let slots: String = slots.iter().map(|number| format!("{} ", number)).collect();
+    format!("{} {} {}{}", a.number, a.next, slots, digits(&frames))
+}
+
 /// The ratio is written as its bits, so that each of them is compared.
 fn decode(w: &[&str]) -> String {
     match reading::decode(&bytes(w[1])) {
@@ -124,6 +136,7 @@ fn answer(line: &str) -> String {
         "open2" => open2(&w),
         "write" => write(&w),
         "read" => read(&w),
+        "many" => many(&w),
         "decode" => decode(&w),
         "newer" => newer(&w),
         name => panic!("no such case: {}", name),

@@ -20,6 +20,12 @@ pub struct Answer {
     pub at: usize,
 }
 
+/// What reading many lines answers.
+pub struct Many {
+    pub number: u8,
+    pub next: usize,
+}
+
 pub fn write_line(
     key: &[u8; 16],
     nonce: &[u8; 16],
@@ -180,4 +186,32 @@ pub fn read_line(journal: &[u8], place: usize, key: &[u8; 16], frame: &mut [u8])
             }
         }
     }
+}
+
+/// A line for each slot, which is five numbers of `slots`: number, next place, n, m and the answer's own place; its
+/// frame is 353 bytes of `frames`. Words behind the last whole slot stay as they were.
+pub fn read_lines(
+    journal: &[u8],
+    place: usize,
+    key: &[u8; 16],
+    slots: &mut [usize],
+    frames: &mut [u8],
+) -> Many {
+    if (slots.len() / 5).checked_mul(353) != Some(frames.len()) {
+        frames.fill(REFUSED);
+        for slot in slots.chunks_exact_mut(5) {
+            slot.copy_from_slice(&[21, place, 0, 0, place]);
+        }
+        return Many {
+            number: 21,
+            next: place,
+        };
+    }
+    let mut next = place;
+    for (slot, frame) in slots.chunks_exact_mut(5).zip(frames.chunks_exact_mut(353)) {
+        let a = read_line(journal, next, key, frame);
+        slot.copy_from_slice(&[a.number.into(), a.next, a.n, a.m, a.at]);
+        next = a.next;
+    }
+    Many { number: 0, next }
 }

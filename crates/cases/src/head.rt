@@ -1,6 +1,7 @@
 // What the words of a case that seals or opens say: the cipher's cases begin alike, and so does the journal's writer.
 use crate::buffer::Buffer;
-use crate::words::size_of;
+use crate::buffer::SIZE;
+use crate::words::up_to;
 use lines::bytes_of;
 use lines::count;
 use lines::sixteen_of;
@@ -61,7 +62,7 @@ impl Head {
 
     // With the size that a word says.
     pub(crate) fn size(self, word: &[u8]) -> Head {
-        let size = size_of(word);
+        let size = up_to(word, SIZE);
         let mut next = self;
         next.size = size.value;
         next.good = self.good & size.good;

@@ -7,6 +7,7 @@ pub(crate) enum Kind {
     Open2,
     Write,
     Read,
+    Many,
     Decode,
     Newer,
     None,
@@ -30,6 +31,9 @@ pub(crate) fn kind_of(name: &[u8]) -> Kind {
     }
     if check::same(name, b"read") {
         return Kind::Read;
+    }
+    if check::same(name, b"many") {
+        return Kind::Many;
     }
     if check::same(name, b"decode") {
         return Kind::Decode;

@@ -30,6 +30,7 @@ fn answer_to(line: &[u8]) -> Answer {
         Kind::Open2 => cipher::open2(line),
         Kind::Write => journaling::write(line),
         Kind::Read => journaling::read(line),
+        Kind::Many => journaling::many(line),
         Kind::Decode => readings::decode(line),
         Kind::Newer => readings::newer(line),
         Kind::None => Answer::none(),

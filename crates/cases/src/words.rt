@@ -1,5 +1,4 @@
-// What a word can say besides bytes: a number, a tick, or a buffer's size.
-use crate::buffer::SIZE;
+// What a word can say besides bytes: a number, a tick, or a number with a limit.
 
 pub(crate) struct Number {
     pub good: bool,
@@ -68,11 +67,11 @@ pub(crate) fn tick_of(text: &[u8]) -> Tick {
     }
 }
 
-// The size of a buffer: a number, and no more than a buffer has.
-pub(crate) fn size_of(text: &[u8]) -> Number {
+// A number that is no more than `most`.
+pub(crate) fn up_to(text: &[u8], most: usize) -> Number {
     let n = number_of(text);
     Number {
-        good: n.good & (n.value <= SIZE),
+        good: n.good & (n.value <= most),
         value: n.value,
     }
 }
