@@ -3,8 +3,9 @@
  *   driver count KIND N M SIDE R    R calls of one side, for the plugin to count; SIDE is ours, rust, or none (an empty call)
  *   driver time KIND N M            nanoseconds a call, ours and the Rust's: the best of 40 batches each, taken in turn
  *   driver journal BYTES            a key line and a journal of so many bytes, lines of n = 64, m = 256 and n = 0, m = 20 in turn
- * KIND is seal, open, write or read; N is the bytes of data, M of message. Buffers are warm: the same ones at each call.
- * With -DNO_LINES the archive has no write and read.
+ * KIND is seal, open, write, read, or for 100 lines `each`, a call for each of them and the 100 taken as one here, or
+ * `many`, one call for all; N is the bytes of data, M of message. Buffers are warm: the same ones at each call.
+ * With -DNO_LINES the archive has no write and read; with -DNO_MANY it has none for many lines.
  */
 #define _POSIX_C_SOURCE 200809L
 #include <stdio.h>
@@ -13,18 +14,21 @@
 #include <time.h>
 #include "votrikany.h"
 
-enum { MOST = 65536, LINE = 707, FRAME = 353 };
+enum { MOST = 65536, LINE = 707, FRAME = 353, SLOT = 5, COUNT = 100 };
 
 typedef uint8_t seal_call(const uint8_t *, const uint8_t *, const uint8_t *, size_t, uint8_t *, size_t, uint8_t *);
 typedef uint8_t open_call(const uint8_t *, const uint8_t *, const uint8_t *, size_t, uint8_t *, size_t, const uint8_t *);
 typedef uint8_t write_call(const uint8_t *, const uint8_t *, const uint8_t *, size_t, const uint8_t *, size_t, uint8_t *, size_t, size_t *);
 typedef uint8_t read_call(const uint8_t *, size_t, size_t, const uint8_t *, uint8_t *, size_t, size_t *, size_t *, size_t *,
                           size_t *);
+typedef uint8_t many_call(const uint8_t *, size_t, size_t, const uint8_t *, size_t *, size_t, uint8_t *, size_t,
+                          size_t *);
 
 seal_call rust_seal_in_place;
 open_call rust_open_in_place;
 write_call rust_write_line;
 read_call rust_read_line;
+many_call rust_read_lines;
 
 static uint8_t none_seal(const uint8_t *k, const uint8_t *o, const uint8_t *a, size_t n, uint8_t *x, size_t m, uint8_t *t)
 {
@@ -51,29 +55,42 @@ static uint8_t none_read(const uint8_t *j, size_t l, size_t p, const uint8_t *k,
     return 0;
 }
 
+static uint8_t none_many(const uint8_t *j, size_t l, size_t p, const uint8_t *k, size_t *s, size_t c, uint8_t *f,
+                         size_t r, size_t *e)
+{
+    (void)j, (void)l, (void)p, (void)k, (void)s, (void)c, (void)f, (void)r, (void)e;
+    return 0;
+}
+
 struct side {
     seal_call *seal;
     open_call *open;
     write_call *write;
     read_call *read;
+    many_call *many;
 };
 
 #ifdef NO_LINES
-static const struct side ours = { votrikany_seal_in_place, votrikany_open_in_place, none_write, none_read };
-#else
-static const struct side ours = { votrikany_seal_in_place, votrikany_open_in_place, votrikany_write_line, votrikany_read_line };
+#define votrikany_write_line none_write
+#define votrikany_read_line none_read
 #endif
-static const struct side rust = { rust_seal_in_place, rust_open_in_place, rust_write_line, rust_read_line };
-static const struct side none = { none_seal, none_open, none_write, none_read };
+#ifdef NO_MANY
+#define votrikany_read_lines none_many
+#endif
+static const struct side ours = { votrikany_seal_in_place, votrikany_open_in_place, votrikany_write_line,
+                                  votrikany_read_line, votrikany_read_lines };
+static const struct side rust = { rust_seal_in_place, rust_open_in_place, rust_write_line, rust_read_line,
+                                  rust_read_lines };
+static const struct side none = { none_seal, none_open, none_write, none_read, none_many };
 
 /* What goes in, and for opening and reading what the Rust made of it. */
-static uint8_t key[16], nonce[16], ad[MOST], message[MOST], sealed[MOST], tag[16], line[LINE];
-static size_t n, m, line_size;
+static uint8_t key[16], nonce[16], ad[MOST], message[MOST], sealed[MOST], tag[16], line[LINE], lines[COUNT * LINE];
+static size_t n, m, line_size, lines_size;
 
 /* What comes out. */
 struct outcome {
-    uint8_t number, tag[16], text[MOST], line[LINE], frame[FRAME];
-    size_t size, next, n, m, at;
+    uint8_t number, tag[16], text[MOST], line[LINE], frame[FRAME], frames[COUNT * FRAME];
+    size_t size, next, n, m, at, slots[COUNT * SLOT];
 };
 
 static void prepare(size_t data, size_t text)
@@ -90,8 +107,29 @@ static void prepare(size_t data, size_t text)
         message[i] = (uint8_t)(17 * i + i / 256);
     memcpy(sealed, message, m);
     rust_seal_in_place(key, nonce, ad, n, sealed, m, tag);
-    if (n <= 64 && m <= 256)
+    if (n <= 64 && m <= 256) {
         rust_write_line(key, nonce, ad, n, message, m, line, sizeof line, &line_size);
+        uint8_t own[16];
+        memcpy(own, nonce, sizeof own);
+        for (size_t i = 0; i < COUNT; i++) {
+            size_t size;
+            own[0] = (uint8_t)i;
+            rust_write_line(key, own, ad, n, message, m, lines + lines_size, LINE, &size);
+            lines_size += size;
+        }
+    }
+}
+
+/* A call for each line, from the place that the one before gave. What comes out goes where one call for all puts it. */
+static void each(const struct side *s, struct outcome *o)
+{
+    o->next = 0;
+    for (size_t i = 0; i < COUNT; i++) {
+        size_t *slot = o->slots + SLOT * i;
+        slot[0] = s->read(lines, lines_size, o->next, key, o->frames + FRAME * i, FRAME, slot + 1, slot + 2, slot + 3,
+                          slot + 4);
+        o->next = slot[1];
+    }
 }
 
 /* One call. The text is put into its buffer each time, since sealing and opening change it: an empty call does that too,
@@ -110,17 +148,33 @@ static void call(const char *kind, const struct side *s, struct outcome *o)
     case 'w':
         o->number = s->write(key, nonce, ad, n, message, m, o->line, sizeof o->line, &o->size);
         break;
+    case 'e':
+        each(s, o);
+        break;
+    case 'm':
+        o->number = s->many(lines, lines_size, 0, key, o->slots, COUNT * SLOT, o->frames, sizeof o->frames, &o->next);
+        break;
     default:
         o->number = s->read(line, line_size, 0, key, o->frame, sizeof o->frame, &o->next, &o->n, &o->m, &o->at);
     }
 }
 
+/* Whether the call went well, and of many lines each. */
+static int well(const struct outcome *o)
+{
+    int good = o->number == 0;
+    for (size_t i = 0; i < COUNT; i++)
+        good = good && o->slots[SLOT * i] == 0;
+    return good;
+}
+
 static int check(const char *kind)
 {
-    static struct outcome a, b;
+    static struct outcome a, b, c;
     call(kind, &ours, &a);
     call(kind, &rust, &b);
-    if (a.number == 0 && memcmp(&a, &b, sizeof a) == 0)
+    call(kind[0] == 'm' ? "each" : kind, &rust, &c); /* one call for all leaves what a call for each does */
+    if (well(&a) && memcmp(&a, &b, sizeof a) == 0 && memcmp(&a, &c, sizeof a) == 0)
         return 0;
     fprintf(stderr, "driver: %s of n = %zu, m = %zu differs: ours answers %d, the Rust %d\n", kind, n, m, a.number, b.number);
     return 1;

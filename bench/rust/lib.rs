@@ -90,3 +90,26 @@ pub unsafe extern "C" fn rust_read_line(
     *at = answer.at;
     answer.number
 }
+
+#[no_mangle]
+pub unsafe extern "C" fn rust_read_lines(
+    text: *const u8,
+    length: usize,
+    place: usize,
+    key: &Sixteen,
+    slots: *mut usize,
+    slots_length: usize,
+    frames: *mut u8,
+    frames_length: usize,
+    next: &mut usize,
+) -> u8 {
+    let many = journal::read_lines(
+        from_raw_parts(text, length),
+        place,
+        key,
+        from_raw_parts_mut(slots, slots_length),
+        from_raw_parts_mut(frames, frames_length),
+    );
+    *next = many.next;
+    many.number
+}

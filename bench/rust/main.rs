@@ -1,5 +1,5 @@
 //! The Rust side of the whole program: a key line and a journal in, the listing out.
-#[allow(dead_code)] // the writer is not used here
+#[allow(dead_code)] // the writer and the reader of many lines are not used here
 #[path = "../../tools/rust/journal.rs"]
 mod journal;
 
