@@ -73,6 +73,10 @@ rollMark = 16
 abbrev pub areaDiffers : ℕ
 areaDiffers = 21
 
+-- the nonce is sixteen zero bytes
+abbrev pub zeroNonce : ℕ
+zeroNonce = 22
+
 -- each is below: the listing counts on two digits
 abbrev pub numbersBelow : ℕ
 numbersBelow = 100

@@ -35,3 +35,5 @@ pub const LINE_TOO_SMALL: u8 = 15;
 pub const ROLL_MARK: u8 = 16;
 
 pub const AREA_DIFFERS: u8 = 21;
+
+pub const ZERO_NONCE: u8 = 22;

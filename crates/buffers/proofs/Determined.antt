@@ -1,11 +1,12 @@
 -- Any two outcomes that a promise allows coincide: each says the result, or the lent buffer at exit, by an equation.
 use mathlib.Core.Path.{_≡_, sym, _∙_}
+use mathlib.Core.Bool.{Bool}
 use mathlib.Core.List.{List, _++_}
 use Prim.Native.Nat.{ℕ, _-_}
 use lib.ListN.{length, take, drop, replicate}
 use Rattle.buffers.specs.Bytes.{halfAt, wordAt, bytesOf, padded}
 use Rattle.buffers.specs.Copy.{allOver, partOver}
-use Rattle.buffers.specs.Find.{firstFrom}
+use Rattle.buffers.specs.Find.{firstFrom, someNonzero}
 
 module _ (b : List ℕ) (at : ℕ) where
   pub copy : (s : List ℕ) {o₁ o₂ : List ℕ} → o₁ ≡ allOver b at s → o₂ ≡ allOver b at s → o₁ ≡ o₂
@@ -33,6 +34,9 @@ module _ (b : List ℕ) (at : ℕ) where
 
   pub put : (w : ℕ) {o₁ o₂ : List ℕ} → o₁ ≡ allOver b at (bytesOf w) → o₂ ≡ allOver b at (bytesOf w) → o₁ ≡ o₂
   put w p q = p ∙ sym q
+
+pub some-nonzero : (b : List ℕ) {r₁ r₂ : Bool} → r₁ ≡ someNonzero b → r₂ ≡ someNonzero b → r₁ ≡ r₂
+some-nonzero b p q = p ∙ sym q
 
 pub bytes-of : (w : ℕ) {r₁ r₂ : List ℕ} → r₁ ≡ bytesOf w → r₂ ≡ bytesOf w → r₁ ≡ r₂
 bytes-of w p q = p ∙ sym q

@@ -1,5 +1,6 @@
 -- Bytes, and the numbers that they make.
 use Prim.Native.Nat.{ℕ, zero, suc, _+_, _*_, _/_, _%_, _^_, _<_}
+use mathlib.Core.Path.{_≡_}
 use mathlib.Core.List.{List, [], _∷_, _++_}
 use lib.ListN.{getD}
 
@@ -10,6 +11,15 @@ Bytes b = (i : ℕ) → getD b i 0 < 256
 -- byte j of b, and zero past its end
 abbrev pub byte : List ℕ → ℕ → ℕ
 byte b j = getD b j 0
+
+-- every byte is zero
+abbrev pub Zeros : List ℕ → Type 0
+Zeros b = (i : ℕ) → byte b i ≡ 0
+
+-- some byte is not zero
+pub record Nonzero (b : List ℕ) : Type 0 where
+  pub at : ℕ
+  pub nonzero : 0 < byte b at
 
 -- the little-endian number of the four bytes from byte j on
 abbrev pub halfAt : List ℕ → ℕ → ℕ

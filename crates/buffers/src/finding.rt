@@ -1,6 +1,6 @@
-// The search for a byte.
+// The search for a byte, and for one that is not zero.
 ghost use mathlib.Core.Path.{_≡_};
-ghost use Rattle.buffers.specs.Find.{has, firstFrom};
+ghost use Rattle.buffers.specs.Find.{has, firstFrom, someNonzero};
 
 // How many bytes are looked at together.
 const BLOCK: usize = 32;
@@ -53,4 +53,18 @@ pub fn find(b: &[u8], from: usize, v: u8) -> usize
         i += 1;
     };
     end
+}
+
+// Whether some byte of `b` is not zero.
+pub fn some_nonzero(b: &[u8]) -> bool
+    ensures { λ r. ⌜ r ≡ someNonzero (now (b .entry)) ⌝ }
+{
+    let mut k: usize = 0;
+    while k < b.len() {
+        if 0 < b[k] {
+            return true;
+        }
+        k += 1;
+    }
+    false
 }

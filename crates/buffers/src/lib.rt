@@ -10,3 +10,4 @@ pub use crate::copying::copy_part;
 pub use crate::copying::sixteen;
 pub use crate::filling::fill;
 pub use crate::finding::find;
+pub use crate::finding::some_nonzero;

@@ -32,7 +32,7 @@ pub record Demand1 : Type 0 where
       → EncryptedInto (begun nonce key) d m out r out' → SealOutcome key nonce d m out r out'
   pub decrypt : (nonce key d c t out : List ℕ) {r : ℕ} {out' : List ℕ}
       → DecryptedInto (begun nonce key) d c t out r out' → OpenOutcome key nonce d c t out r out'
-  -- the reader: 13, 12, 14, 11, and of a line's text 16, 4, 5, 6, 7, 8, 9, 10, 1
+  -- the reader: 13, 12, 14, 11, and of a line's text 16, 4, 5, 6, 7, 8, 9, 10, 22, 1
   pub read-line : (j : List ℕ) (place : ℕ) (key frame : List ℕ) {r : Answer} {frame' : List ℕ}
       → LineRead j place key frame r frame' → ReadOutcome j place key frame r frame'
   pub read-text : (text key frame : List ℕ) {r : Verdict} {frame' : List ℕ}
@@ -40,7 +40,7 @@ pub record Demand1 : Type 0 where
   -- many lines: 21 before all others, and else the reader's answer in each slot
   pub read-lines : (j : List ℕ) (place : ℕ) (key slots frames : List ℕ) {r : Many} {slots' frames' : List ℕ}
       → LinesRead j place key slots frames r slots' frames' → ManyAnswer key j place slots frames r slots' frames'
-  -- the writer: 8, 10, 15
+  -- the writer: 8, 10, 22, 15
   pub write-line : (key nonce ad message line : List ℕ) {r : Line} {line' : List ℕ}
       → LineWritten key nonce ad message line r line' → WriteOutcome key nonce ad message line r line'
   -- a reading: 17, 18, 19, 20, and what is handed out of it; of bytes, which are all that a `&[u8]` can hold

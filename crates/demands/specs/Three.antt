@@ -1,7 +1,7 @@
 -- Demand 3. Damage costs only the lines it touches (a lost newline: the next line too). Two journals, any bytes A or B, then
 -- a newline, then the same T, read from the start under one key: T's lines are answered alike, same numbers, same buffers,
 -- places shifted. A line is opened exactly if it is the line that sealing and the format make from some nonce, data and
--- message within the sizes, and those are handed out. The sealing is demand 2's.
+-- message within the sizes, some byte of the nonce not zero, and those are handed out. The sealing is demand 2's.
 use Prim.Native.Nat.{ℕ, _+_, _≤_}
 use mathlib.Core.Path.{_≡_}
 use mathlib.Core.List.{List, _∷_, _++_}

@@ -12,6 +12,8 @@ use lib.Dec.{leb, eqb}
 use borrow.Author.Tests.{le-leb, leb-true, leb-false, eqb-true, eqb-false}
 use Rattle.answers.specs.Sizes.{fixed, mostData, mostMessage, mostFrame, mostDigits}
 use Rattle.answers.specs.Rows.{firstFailing}
+use Rattle.buffers.specs.Find.{someNonzero}
+use Rattle.buffers.proofs.Nonzero.{some-zeros, some-nonzero}
 use Rattle.morus.specs.Seal.{unseal, accepts}
 use Rattle.morus.proofs.Laws.{unseal-length, whole, accepts-only, accepts-it}
 use Rattle.hex.specs.Hex.{firstBad, allDigits, unhex}
@@ -69,38 +71,47 @@ module _ (key : List ℕ) (size : ℕ) (f : List ℕ) where
   unfolding readFrame given frameRows tagRows firstFailing refused
   frame-answered =
       go (leb fixed (length f)) (leb (nIn f) mostData) (leb (fixed + nIn f) (length f)) (leb (mIn f) mostMessage)
-      (accepts key (nonceIn f) (adIn f) (cipherIn f) (tagIn f)) refl refl refl refl refl
+      (someNonzero (nonceIn f)) (accepts key (nonceIn f) (adIn f) (cipherIn f) (tagIn f)) refl refl refl refl refl refl
     where
-      go : (b7 b8 b9 b10 b1 : Bool) → leb fixed (length f) ≡ b7 → leb (nIn f) mostData ≡ b8
-          → leb (fixed + nIn f) (length f) ≡ b9 → leb (mIn f) mostMessage ≡ b10
+      go : (b7 b8 b9 b10 b22 b1 : Bool) → leb fixed (length f) ≡ b7 → leb (nIn f) mostData ≡ b8
+          → leb (fixed + nIn f) (length f) ≡ b9 → leb (mIn f) mostMessage ≡ b10 → someNonzero (nonceIn f) ≡ b22
           → accepts key (nonceIn f) (adIn f) (cipherIn f) (tagIn f) ≡ b1
           → FrameAnswer key size f (readFrame key f size)
-      go false b8 b9 b10 b1 e7 e8 e9 e10 e1 = rw e7 (FrameAnswer.short (leb-false _ _ e7))
-      go true false b9 b10 b1 e7 e8 e9 e10 e1 =
+      go false b8 b9 b10 b22 b1 e7 e8 e9 e10 e22 e1 = rw e7 (FrameAnswer.short (leb-false _ _ e7))
+      go true false b9 b10 b22 b1 e7 e8 e9 e10 e22 e1 =
           rw (e7, e8) (FrameAnswer.data-long (leb-true _ _ e7) (leb-false _ _ e8))
-      go true true false b10 b1 e7 e8 e9 e10 e1 =
+      go true true false b10 b22 b1 e7 e8 e9 e10 e22 e1 =
           rw (e7, e8, e9) (FrameAnswer.data-past (leb-true _ _ e7) (leb-true _ _ e8) (leb-false _ _ e9))
-      go true true true false b1 e7 e8 e9 e10 e1 =
+      go true true true false b22 b1 e7 e8 e9 e10 e22 e1 =
           let S = sound f (leb-true _ _ e9) in
           let n = leb-true (nIn f) mostData e8 in
           let m = leb-false (mIn f) mostMessage e10 in
           rw (e7, e8, e9, e10)
           (FrameAnswer.message-long (framed S) (omega (arith, S .adLength)) (omega (arith, message-length S)))
-      go true true true true false e7 e8 e9 e10 e1 =
+      go true true true true false b1 e7 e8 e9 e10 e22 e1 =
           let S = sound f (leb-true _ _ e9) in
           let n = leb-true (nIn f) mostData e8 in
           let m = leb-true (mIn f) mostMessage e10 in
-          rw (e7, e8, e9, e10, e1)
+          rw (e7, e8, e9, e10, e22)
+          (FrameAnswer.zero-nonce (framed S) (omega (arith, S .adLength)) (omega (arith, message-length S))
+          (some-zeros (nonceIn f) e22))
+      go true true true true true false e7 e8 e9 e10 e22 e1 =
+          let S = sound f (leb-true _ _ e9) in
+          let n = leb-true (nIn f) mostData e8 in
+          let m = leb-true (mIn f) mostMessage e10 in
+          rw (e7, e8, e9, e10, e22, e1)
           (FrameAnswer.tag-differs (framed S) (omega (arith, S .adLength)) (omega (arith, message-length S))
+          (some-nonzero (nonceIn f) e22)
           (λ e. clash (sym (accepts-it key (nonceIn f) (adIn f) (cipherIn f) (tagIn f) e) ∙ e1)))
-      go true true true true true e7 e8 e9 e10 e1 =
+      go true true true true true true e7 e8 e9 e10 e22 e1 =
           let S = sound f (leb-true _ _ e9) in
           let n = leb-true (nIn f) mostData e8 in
           let m = leb-true (mIn f) mostMessage e10 in
           let o = accepts-only key (nonceIn f) (adIn f) (cipherIn f) (tagIn f) e1 in
           let a : FrameAnswer key size f (handed key (nonceIn f) (adIn f) (framed S .message) 0 size) =
-          FrameAnswer.opened (framed S) (omega (arith, S .adLength)) (omega (arith, message-length S)) o in
-          rw (e7, e8, e9, e10, e1) (rw (handed-is S o) at a)
+          FrameAnswer.opened (framed S) (omega (arith, S .adLength)) (omega (arith, message-length S))
+          (some-nonzero (nonceIn f) e22) o in
+          rw (e7, e8, e9, e10, e22, e1) (rw (handed-is S o) at a)
 
 -- ---- a line's text
 
@@ -191,33 +202,40 @@ module _ (key nonce ad message line : List ℕ) where
   writer-answered : WriteAnswer key nonce ad message line (made .report .number) (made .report .length) (made .buffer)
   unfolding writeInto writing writerNumber writerRows firstFailing
   writer-answered =
-      go (leb (length ad) mostData) (leb (length message) mostMessage)
-      (leb (lineLength (length ad) (length message)) (length line)) refl refl refl
+      go (leb (length ad) mostData) (leb (length message) mostMessage) (someNonzero nonce)
+      (leb (lineLength (length ad) (length message)) (length line)) refl refl refl refl
     where
-      go : (b8 b10 b15 : Bool) → leb (length ad) mostData ≡ b8 → leb (length message) mostMessage ≡ b10
-          → leb (lineLength (length ad) (length message)) (length line) ≡ b15
+      go : (b8 b10 b22 b15 : Bool) → leb (length ad) mostData ≡ b8 → leb (length message) mostMessage ≡ b10
+          → someNonzero nonce ≡ b22 → leb (lineLength (length ad) (length message)) (length line) ≡ b15
           → WriteAnswer key nonce ad message line (made .report .number) (made .report .length) (made .buffer)
-      go false b10 b15 e8 e10 e15 = rw e8 (WriteAnswer.data-long (leb-false _ _ e8))
-      go true false b15 e8 e10 e15 = rw (e8, e10) (WriteAnswer.message-long (leb-true _ _ e8) (leb-false _ _ e10))
-      go true true false e8 e10 e15 =
-          rw (e8, e10, e15) (WriteAnswer.no-room (leb-true _ _ e8) (leb-true _ _ e10) (leb-false _ _ e15))
-      go true true true e8 e10 e15 =
-          rw (e8, e10, e15) (WriteAnswer.done (leb-true _ _ e8) (leb-true _ _ e10) (leb-true _ _ e15))
+      go false b10 b22 b15 e8 e10 e22 e15 = rw e8 (WriteAnswer.data-long (leb-false _ _ e8))
+      go true false b22 b15 e8 e10 e22 e15 =
+          rw (e8, e10) (WriteAnswer.message-long (leb-true _ _ e8) (leb-false _ _ e10))
+      go true true false b15 e8 e10 e22 e15 =
+          rw (e8, e10, e22) (WriteAnswer.zero-nonce (leb-true _ _ e8) (leb-true _ _ e10) (some-zeros nonce e22))
+      go true true true false e8 e10 e22 e15 =
+          rw (e8, e10, e22, e15)
+          (WriteAnswer.no-room (leb-true _ _ e8) (leb-true _ _ e10) (some-nonzero nonce e22) (leb-false _ _ e15))
+      go true true true true e8 e10 e22 e15 =
+          rw (e8, e10, e22, e15)
+          (WriteAnswer.done (leb-true _ _ e8) (leb-true _ _ e10) (some-nonzero nonce e22) (leb-true _ _ e15))
 
   pub size-of : {k size : ℕ} {line' : List ℕ} → WriteAnswer key nonce ad message line k size line' → k ≡ 0
       → size ≡ lineSize ad message
   size-of (WriteAnswer.data-long h) z = absurd (omega arith)
   size-of (WriteAnswer.message-long h i) z = absurd (omega arith)
-  size-of (WriteAnswer.no-room h i j) z = absurd (omega arith)
-  size-of (WriteAnswer.done h i j) z = refl
+  size-of (WriteAnswer.zero-nonce h i s) z = absurd (omega arith)
+  size-of (WriteAnswer.no-room h i s j) z = absurd (omega arith)
+  size-of (WriteAnswer.done h i s j) z = refl
 
   -- a line that was written, by its parts
   placed : {k size : ℕ} {line' : List ℕ} → WriteAnswer key nonce ad message line k size line' → k ≡ 0
       → length nonce ≡ 16 → Placed (sealedLine key nonce ad message) size line line'
   placed (WriteAnswer.data-long h) z l = absurd (omega arith)
   placed (WriteAnswer.message-long h i) z l = absurd (omega arith)
-  placed (WriteAnswer.no-room h i j) z l = absurd (omega arith)
-  placed (WriteAnswer.done h i j) z l =
+  placed (WriteAnswer.zero-nonce h i s) z l = absurd (omega arith)
+  placed (WriteAnswer.no-room h i s j) z l = absurd (omega arith)
+  placed (WriteAnswer.done h i s j) z l =
       let e = line-size key nonce ad message l in
       let rest = drop (lineSize ad message) line in
       record {
@@ -226,7 +244,7 @@ module _ (key nonce ad message line : List ℕ) where
       }
 
 module _ {key nonce ad message line line' : List ℕ} {r : Line} (w : LineWritten key nonce ad message line r line') where
-  pub number-is : r .number ≡ writerNumber (length ad) (length message) (length line)
+  pub number-is : r .number ≡ writerNumber nonce (length ad) (length message) (length line)
   unfolding writeInto
   number-is =
       ap (λ (a : Line). a .number) (w .report)
@@ -243,4 +261,4 @@ module _ {key nonce ad message line line' : List ℕ} {r : Line} (w : LineWritte
 pub order : Order
 unfolding placeRows lineRows bufferRows textRows frameRows tagRows writerRows
 order =
-    record { place = λ j place size. refl; text = λ key text size. refl; writer = λ n m room. refl }
+    record { place = λ j place size. refl; text = λ key text size. refl; writer = λ nonce n m room. refl }

@@ -6,6 +6,7 @@ pub mod OpenFrame
 pub mod SealFrame
 pub mod WriteLine
 pub mod Made
+pub mod Unset
 pub mod Opened
 pub mod Calls
 pub mod Refused

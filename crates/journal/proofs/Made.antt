@@ -6,8 +6,9 @@ use mathlib.Core.List.{List, [], _∷_, _++_}
 use native.Mathlib.Omega.{arith}
 use lib.ListN.{length, drop}
 use lib.Seq.{take-append-seam}
-use Rattle.answers.specs.Sizes.{dataAt, fixed, mostFrame, nonceSize}
+use Rattle.answers.specs.Sizes.{dataAt, fixed, mostData, mostMessage, mostFrame, nonceSize}
 use Rattle.buffers.proofs.AllBytes.{bytes-cons, bytes-append, bytes-take, bytes-drop}
+use Rattle.buffers.proofs.Nonzero.{some-nonzero, nonzero-some}
 use Rattle.buffers.specs.Bytes.{Bytes}
 use Rattle.morus.specs.Seal.{seal, sealTag, unseal, accepts}
 use Rattle.morus.proofs.Laws.{seal-length, seal-bytes, tag-length, tag-bytes, unseal-length, unseal-bytes, own, back, only}
@@ -39,18 +40,38 @@ module _ (key : List ℕ) where
     pub len : length (frameOf key nonce ad message) ≡ fixed + length ad + length message
     pub are : Parts (frameOf key nonce ad message) nonce ad (seal key nonce ad message) (sealTag key nonce ad message)
 
+  module _ (nonce ad message : List ℕ) (nonce16 : length nonce ≡ nonceSize) (ad64 : length ad ≤ mostData)
+      (nb : Bytes nonce) (ab : Bytes ad) (mb : Bytes message) where
+    -- whatever nonce it is: the cipher takes each
+    pub sealed-of : Sealed nonce ad message
+    sealed-of =
+        let c = seal key nonce ad message in
+        let t = sealTag key nonce ad message in
+        record {
+          bytes =
+              bytes-append nonce (length ad ∷ (ad ++ (c ++ t))) nb
+              (bytes-cons (length ad) (ad ++ (c ++ t)) (omega arith)
+              (bytes-append ad (c ++ t) ab
+              (bytes-append c t (seal-bytes key nonce ad message mb) (tag-bytes key nonce ad message))));
+          len = frame-size key nonce ad message nonce16;
+          are = parts nonce ad c t nonce16 (tag-length key nonce ad message);
+        }
+
   pub is-sealed : (nonce ad message : List ℕ) → Fits nonce ad message → Sealed nonce ad message
   is-sealed nonce ad message F =
-      let c = seal key nonce ad message in
-      let t = sealTag key nonce ad message in
+      sealed-of nonce ad message (F .nonce16) (F .ad64) (F .nonceBytes) (F .adBytes) (F .messageBytes)
+
+  -- the digits of its frame are a line's text
+  pub sealed-text : (nonce ad message : List ℕ) → Sealed nonce ad message → length ad ≤ mostData
+      → length message ≤ mostMessage → GoodText (hexOf (frameOf key nonce ad message))
+  sealed-text nonce ad message S ad64 message256 =
+      let K = coded (frameOf key nonce ad message) (S .bytes) in
+      let len = S .len in
       record {
-        bytes =
-            bytes-append nonce (length ad ∷ (ad ++ (c ++ t))) (F .nonceBytes)
-            (bytes-cons (length ad) (ad ++ (c ++ t)) (omega (arith, F .ad64))
-            (bytes-append ad (c ++ t) (F .adBytes)
-            (bytes-append c t (seal-bytes key nonce ad message (F .messageBytes)) (tag-bytes key nonce ad message))));
-        len = frame-size key nonce ad message (F .nonce16);
-        are = parts nonce ad c t (F .nonce16) (tag-length key nonce ad message);
+        some = omega (arith, K .len);
+        short = omega (arith, K .len);
+        digits = K .digits;
+        even = omega (arith, K .len);
       }
 
   -- what is handed out, d bytes further on
@@ -67,17 +88,6 @@ module _ (key : List ℕ) where
     S : Sealed nonce ad message
     S = is-sealed nonce ad message F
 
-    text-good : GoodText (hexOf f)
-    text-good =
-        let K = coded f (S .bytes) in
-        let len = S .len in
-        record {
-          some = omega (arith, K .len);
-          short = omega (arith, K .len, F .ad64, F .message256);
-          digits = K .digits;
-          even = omega (arith, K .len);
-        }
-
     frame-good : GoodFrame f
     frame-good =
         let n = S .are .nIs in
@@ -85,7 +95,13 @@ module _ (key : List ℕ) where
         let l = S .len in
         let n64 = F .ad64 in
         let m256 = F .message256 in
-        record { least = omega arith; few = omega arith; within = omega arith; most = omega arith }
+        record {
+          least = omega arith;
+          few = omega arith;
+          within = omega arith;
+          most = omega arith;
+          set = rw (S .are .nonceIs) (nonzero-some nonce (F .set));
+        }
 
     tag-passes : (size : ℕ) → given key f size (firstFailing (tagRows key f)) ≡ handed key nonce ad message 0 size
     unfolding firstFailing tagRows given opened openedFrame handed
@@ -96,7 +112,7 @@ module _ (key : List ℕ) where
 
     pub line-opens : (size : ℕ) → mostFrame ≤ size → readText key (hexOf f) size ≡ handed key nonce ad message 0 size
     line-opens size big =
-        text-passes key (hexOf f) size big text-good
+        text-passes key (hexOf f) size big (sealed-text nonce ad message S (F .ad64) (F .message256))
         ∙ rw (coded f (S .bytes) .back) (frame-passes key f size frame-good ∙ tag-passes size)
 
   -- a text that is opened is one that the sealing made
@@ -114,6 +130,7 @@ module _ (key : List ℕ) where
         message = unseal key (nonceIn f) (adIn f) (cipherIn f);
         fits = record {
           nonce16 = S .nonce16;
+          set = some-nonzero (nonceIn f) (g .frame .set);
           ad64 = omega (arith, g .frame .few, S .adLength);
           message256 =
               omega (arith, g .frame .most, S .bodyLength, unseal-length key (nonceIn f) (adIn f) (cipherIn f));

@@ -40,8 +40,9 @@ module _ {key : List ℕ} {size : ℕ} where
   frame-marks (FrameAnswer.data-long l n) = long l (λ e. omega arith) (λ e. omega arith)
   frame-marks (FrameAnswer.data-past l n p) = long l (λ e. omega arith) (λ e. omega arith)
   frame-marks (FrameAnswer.message-long F n m) = long (framed-long F) (λ e. omega arith) (λ e. omega arith)
-  frame-marks (FrameAnswer.tag-differs F n m o) = long (framed-long F) (λ e. omega arith) (λ e. omega arith)
-  frame-marks (FrameAnswer.opened F n m o) = long (framed-long F) (λ e. omega arith) (λ e. omega arith)
+  frame-marks (FrameAnswer.zero-nonce F n m z) = long (framed-long F) (λ e. omega arith) (λ e. omega arith)
+  frame-marks (FrameAnswer.tag-differs F n m s o) = long (framed-long F) (λ e. omega arith) (λ e. omega arith)
+  frame-marks (FrameAnswer.opened F n m s o) = long (framed-long F) (λ e. omega arith) (λ e. omega arith)
 
 -- ---- a line's text
 

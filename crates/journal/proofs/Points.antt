@@ -23,8 +23,9 @@ module _ {key : List ℕ} {size : ℕ} where
   frame-points (FrameAnswer.data-long l n) = (λ e. omega arith, refl)
   frame-points (FrameAnswer.data-past l n p) = (λ e. omega arith, refl)
   frame-points (FrameAnswer.message-long F n m) = (λ e. omega arith, refl)
-  frame-points (FrameAnswer.tag-differs F n m o) = (λ e. omega arith, refl)
-  frame-points (FrameAnswer.opened F n m o) = (λ e. omega arith, refl)
+  frame-points (FrameAnswer.zero-nonce F n m z) = (λ e. omega arith, refl)
+  frame-points (FrameAnswer.tag-differs F n m s o) = (λ e. omega arith, refl)
+  frame-points (FrameAnswer.opened F n m s o) = (λ e. omega arith, refl)
 
   pub text-points : {text : List ℕ} {v : Verdict} → TextAnswer key size text v → TextPoints text (v .number) (v .at)
   text-points (TextAnswer.too-small s) = record { bad = λ e. absurd (omega arith); other = λ n. refl }

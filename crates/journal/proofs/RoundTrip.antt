@@ -38,13 +38,21 @@ use Rattle.journal.proofs.Rows.{not-end}
 module _ {key nonce ad message line line' : List ℕ} {r : Line}
     (len : length nonce ≡ nonceSize) (bn : Bytes nonce) (ba : Bytes ad) (bm : Bytes message)
     (w : LineWritten key nonce ad message line r line') (z : r .number ≡ 0) where
-  number : writerNumber (length ad) (length message) (length line) ≡ 0
+  number : writerNumber nonce (length ad) (length message) (length line) ≡ 0
   number = sym (number-is w) ∙ z
 
   fits : Fits nonce ad message
   fits =
-      let g = writer-pass (length ad) (length message) (length line) number in
-      record { nonce16 = len; ad64 = g .few; message256 = g .most; nonceBytes = bn; adBytes = ba; messageBytes = bm }
+      let g = writer-pass nonce (length ad) (length message) (length line) number in
+      record {
+        nonce16 = len;
+        set = g .set;
+        ad64 = g .few;
+        message256 = g .most;
+        nonceBytes = bn;
+        adBytes = ba;
+        messageBytes = bm;
+      }
 
   -- the line stands at the front, and its length was reported
   pub size-is : r .length ≡ length (lineOf key nonce ad message)

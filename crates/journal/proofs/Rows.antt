@@ -13,6 +13,7 @@ use Rattle.answers.specs.Numbers.{rollMark, lineTooLong, notDigit, bufferTooSma
 use Rattle.answers.specs.Sizes.{nonceSize, fixed, mostData, mostMessage, mostFrame, mostDigits}
 use Rattle.answers.specs.Rows.{Row, firstFailing}
 use Rattle.answers.proofs.Rows.{must, AllPass, first-lt, first-not, zero-pass, pass-first, fail-first, pass-both}
+use Rattle.buffers.specs.Find.{someNonzero}
 use Rattle.hex.specs.Hex.{allDigits, unhex}
 use Rattle.morus.specs.Seal.{accepts}
 use Rattle.run.specs.Read.{Verdict, refused, moved, bufferRows}
@@ -35,6 +36,7 @@ pub record GoodFrame (f : List ℕ) : Type 0 where
   pub few : nIn f ≤ mostData
   pub within : fixed + nIn f ≤ length f
   pub most : mIn f ≤ mostMessage
+  pub set : someNonzero (nonceIn f) ≡ true
 
 -- of a text that is opened
 pub record GoodLine (key text : List ℕ) : Type 0 where
@@ -60,18 +62,24 @@ text-good text g =
 
 good-frame : (f : List ℕ) → AllPass (frameRows f) → GoodFrame f
 unfolding frameRows
-good-frame f (least, (few, (within, (most, none)))) =
+good-frame f (least, (few, (within, (most, (set, none))))) =
     record {
       least = omega (arith, leb-true);
       few = omega (arith, leb-true);
       within = omega (arith, leb-true);
       most = omega (arith, leb-true);
+      set = set;
     }
 
 frame-good : (f : List ℕ) → GoodFrame f → AllPass (frameRows f)
 unfolding frameRows
-frame-good f g =
-    (must (λ e. omega (arith, leb-false)), (must (λ e. omega (arith, leb-false)), (must (λ e. omega (arith, leb-false)), (must (λ e. omega (arith, leb-false)), tt))))
+frame-good f g = (
+  must (λ e. omega (arith, leb-false)),
+  (
+    must (λ e. omega (arith, leb-false)),
+    (must (λ e. omega (arith, leb-false)), (must (λ e. omega (arith, leb-false)), (g .set, tt))),
+  ),
+)
 
 pub text-pass : (text : List ℕ) → firstFailing (textRows text) ≡ 0 → GoodText text
 unfolding textRows

@@ -9,6 +9,8 @@ use borrow.Author.Tests.{le-leb, leb-true}
 use Rattle.answers.specs.Numbers.{done}
 use Rattle.answers.specs.Sizes.{nonceSize, fixed, mostData, mostMessage}
 use Rattle.answers.proofs.Rows.{AllPass, zero-pass}
+use Rattle.buffers.specs.Bytes.{Nonzero}
+use Rattle.buffers.proofs.Nonzero.{some-nonzero}
 use Rattle.hex.specs.Hex.{hexOf}
 use Rattle.hex.specs.Promise.{written, WrittenOf}
 use Rattle.hex.specs.declared.answer.Written.{Written}
@@ -22,19 +24,25 @@ use Rattle.journal.proofs.SealFrame.{on, set-on}
 use Rattle.journal.proofs.Sizes.{frame-size, line-size}
 
 -- what the writer's rows say where they pass
-pub record GoodSizes (n m room : ℕ) : Type 0 where
+pub record GoodWriting (nonce : List ℕ) (n m room : ℕ) : Type 0 where
   pub few : n ≤ mostData
   pub most : m ≤ mostMessage
+  pub set : Nonzero nonce
   pub fits : lineLength n m ≤ room
 
-good-sizes : (n m room : ℕ) → AllPass (writerRows n m room) → GoodSizes n m room
+good-writing : (nonce : List ℕ) (n m room : ℕ) → AllPass (writerRows nonce n m room) → GoodWriting nonce n m room
 unfolding writerRows
-good-sizes n m room (few, (most, (fits, none))) =
-    record { few = omega (arith, leb-true); most = omega (arith, leb-true); fits = leb-true _ _ fits }
+good-writing nonce n m room (few, (most, (set, (fits, none)))) =
+    record {
+      few = omega (arith, leb-true);
+      most = omega (arith, leb-true);
+      set = some-nonzero nonce set;
+      fits = leb-true _ _ fits;
+    }
 
-pub writer-pass : (n m room : ℕ) → writerNumber n m room ≡ 0 → GoodSizes n m room
+pub writer-pass : (nonce : List ℕ) (n m room : ℕ) → writerNumber nonce n m room ≡ 0 → GoodWriting nonce n m room
 unfolding writerNumber writerRows
-writer-pass n m room e = good-sizes n m room (zero-pass (writerRows n m room) tt e)
+writer-pass nonce n m room e = good-writing nonce n m room (zero-pass (writerRows nonce n m room) tt e)
 
 -- what follows from the digit writer's report r and the digits that it left
 pub record Writes (key nonce ad message line : List ℕ) (r : Written) (line₁ : List ℕ) : Type 0 where
@@ -43,19 +51,19 @@ pub record Writes (key nonce ad message line : List ℕ) (r : Written) (line₁ 
       → LineWritten key nonce ad message line (record { number = done; length = digits + 1 }) (set line₁ digits newline)
 
 module _ (key nonce ad message line : List ℕ) where
-  pub refused : {number : ℕ} → number ≡ writerNumber (length ad) (length message) (length line) → (number ≡ 0 → ⊥)
+  pub refused : {number : ℕ} → number ≡ writerNumber nonce (length ad) (length message) (length line) → (number ≡ 0 → ⊥)
       → LineWritten key nonce ad message line (record { number = number; length = 0 }) line
   unfolding writeInto writing
   refused {number} e h = go number e h
     where
-      go : (k : ℕ) → k ≡ writerNumber (length ad) (length message) (length line) → (k ≡ 0 → ⊥)
+      go : (k : ℕ) → k ≡ writerNumber nonce (length ad) (length message) (length line) → (k ≡ 0 → ⊥)
           → LineWritten key nonce ad message line (record { number = k; length = 0 }) line
       go zero e h = absurd (h refl)
       go (suc k) e h = record { report = rw (← e); buffer = rw (← e) }
 
-  module _ (z : writerNumber (length ad) (length message) (length line) ≡ 0) where
-    g : GoodSizes (length ad) (length message) (length line)
-    g = writer-pass (length ad) (length message) (length line) z
+  module _ (z : writerNumber nonce (length ad) (length message) (length line) ≡ 0) where
+    g : GoodWriting nonce (length ad) (length message) (length line)
+    g = writer-pass nonce (length ad) (length message) (length line) z
 
     written-done : {line' : List ℕ}
         → line' ≡ lineOf key nonce ad message ++ drop (lineLength (length ad) (length message)) line

@@ -5,7 +5,7 @@ use mathlib.Core.Path.{_≡_}
 use mathlib.Core.List.{List, [], _∷_, _++_}
 use lib.ListN.{length, getD, take, drop}
 use Rattle.answers.specs.Rows.{order}
-use Rattle.buffers.specs.Bytes.{Bytes}
+use Rattle.buffers.specs.Bytes.{Bytes, Zeros, Nonzero}
 use Rattle.morus.specs.Seal.{seal, sealTag}
 use Rattle.hex.specs.Hex.{hexOf}
 use Rattle.hex.specs.Claims.{HexDigits, NotHex}
@@ -40,9 +40,11 @@ pub data FrameAnswer (key : List ℕ) (size : ℕ) (f : List ℕ) : Verdict → 
   data-past : 33 ≤ length f → getD f 16 0 ≤ 64 → length f < 33 + getD f 16 0 → FrameAnswer key size f (blank 9 0 size)
   message-long : (F : Framed key f) → length (F .ad) ≤ 64 → 256 < length (F .message)
       → FrameAnswer key size f (blank 10 0 size)
-  tag-differs : (F : Framed key f) → length (F .ad) ≤ 64 → length (F .message) ≤ 256 → (Own F → ⊥)
-      → FrameAnswer key size f (blank 1 0 size)
-  opened : (F : Framed key f) → length (F .ad) ≤ 64 → length (F .message) ≤ 256 → Own F
+  zero-nonce : (F : Framed key f) → length (F .ad) ≤ 64 → length (F .message) ≤ 256 → Zeros (F .nonce)
+      → FrameAnswer key size f (blank 22 0 size)
+  tag-differs : (F : Framed key f) → length (F .ad) ≤ 64 → length (F .message) ≤ 256 → Nonzero (F .nonce)
+      → (Own F → ⊥) → FrameAnswer key size f (blank 1 0 size)
+  opened : (F : Framed key f) → length (F .ad) ≤ 64 → length (F .message) ≤ 256 → Nonzero (F .nonce) → Own F
       → FrameAnswer key size f (handed key (F .nonce) (F .ad) (F .message) 0 size)
 
 -- ---- a line's text
@@ -89,9 +91,10 @@ lineSize ad message = 2 * (33 + length ad + length message) + 1
 pub data WriteAnswer (key nonce ad message line : List ℕ) : (number size : ℕ) → (line' : List ℕ) → Type 0 where
   data-long : 64 < length ad → WriteAnswer key nonce ad message line 8 0 line
   message-long : length ad ≤ 64 → 256 < length message → WriteAnswer key nonce ad message line 10 0 line
-  no-room : length ad ≤ 64 → length message ≤ 256 → length line < lineSize ad message
+  zero-nonce : length ad ≤ 64 → length message ≤ 256 → Zeros nonce → WriteAnswer key nonce ad message line 22 0 line
+  no-room : length ad ≤ 64 → length message ≤ 256 → Nonzero nonce → length line < lineSize ad message
       → WriteAnswer key nonce ad message line 15 0 line
-  done : length ad ≤ 64 → length message ≤ 256 → lineSize ad message ≤ length line
+  done : length ad ≤ 64 → length message ≤ 256 → Nonzero nonce → lineSize ad message ≤ length line
       → WriteAnswer key nonce ad message line 0 (lineSize ad message)
       (sealedLine key nonce ad message ++ drop (lineSize ad message) line)
 
@@ -110,5 +113,5 @@ pub record WriteOutcome (key nonce ad message line : List ℕ) (r : Line) (line'
 pub record Order : Type 0 where
   pub place : (j : List ℕ) (place size : ℕ) → order (placeRows j place size) ≡ 13 ∷ 12 ∷ 14 ∷ 11 ∷ []
   pub text : (key text : List ℕ) (size : ℕ)
-      → order (lineRows key text size) ≡ 13 ∷ 16 ∷ 4 ∷ 5 ∷ 6 ∷ 7 ∷ 8 ∷ 9 ∷ 10 ∷ 1 ∷ []
-  pub writer : (n m room : ℕ) → order (writerRows n m room) ≡ 8 ∷ 10 ∷ 15 ∷ []
+      → order (lineRows key text size) ≡ 13 ∷ 16 ∷ 4 ∷ 5 ∷ 6 ∷ 7 ∷ 8 ∷ 9 ∷ 10 ∷ 22 ∷ 1 ∷ []
+  pub writer : (nonce : List ℕ) (n m room : ℕ) → order (writerRows nonce n m room) ≡ 8 ∷ 10 ∷ 22 ∷ 15 ∷ []

@@ -4,7 +4,7 @@ use mathlib.Core.Path.{_≡_}
 use mathlib.Core.List.{List, [], _∷_, _++_}
 use lib.ListN.{length}
 use Rattle.answers.specs.Sizes.{nonceSize, fixed, mostData, mostMessage}
-use Rattle.buffers.specs.Bytes.{Bytes}
+use Rattle.buffers.specs.Bytes.{Bytes, Nonzero}
 use Rattle.morus.specs.Seal.{seal, sealTag}
 use Rattle.hex.specs.Hex.{hexOf}
 use Rattle.run.specs.Line.{newline}
@@ -20,9 +20,10 @@ lineOf key nonce ad message = hexOf (frameOf key nonce ad message) ++ (newline �
 abbrev pub lineLength : (n m : ℕ) → ℕ
 lineLength n m = 2 * (fixed + n + m) + 1
 
--- bytes within the sizes
+-- bytes within the sizes, and some byte of the nonce is not zero
 pub record Fits (nonce ad message : List ℕ) : Type 0 where
   pub nonce16 : length nonce ≡ nonceSize
+  pub set : Nonzero nonce
   pub ad64 : length ad ≤ mostData
   pub message256 : length message ≤ mostMessage
   pub nonceBytes : Bytes nonce

@@ -5,9 +5,10 @@ use mathlib.Core.List.{List, [], _∷_, _++_}
 use lib.ListN.{length, replicate}
 use lib.Dec.{leb, eqb}
 use Rattle.answers.specs.Numbers.{done, tagDiffers, rollMark, lineTooLong, notDigit, odd}
-use Rattle.answers.specs.Numbers.{frameTooShort, dataTooLong, dataPastFrame, messageTooLong}
+use Rattle.answers.specs.Numbers.{frameTooShort, dataTooLong, dataPastFrame, messageTooLong, zeroNonce}
 use Rattle.answers.specs.Sizes.{fill, fixed, mostData, mostMessage, mostDigits}
 use Rattle.answers.specs.Rows.{Row, _else_, firstFailing}
+use Rattle.buffers.specs.Find.{someNonzero}
 use Rattle.morus.specs.Seal.{unseal, accepts}
 use Rattle.hex.specs.Hex.{firstBad, allDigits, unhex}
 use Rattle.run.specs.Read as Read
@@ -37,6 +38,7 @@ frameRows f =
     ∷ (leb (nIn f) mostData else dataTooLong)
     ∷ (leb (fixed + nIn f) (length f) else dataPastFrame)
     ∷ (leb (mIn f) mostMessage else messageTooLong)
+    ∷ (someNonzero (nonceIn f) else zeroNonce)
     ∷ []
 
 unfoldable pub tagRows : (key f : List ℕ) → List Row

@@ -7,6 +7,7 @@ use buffers::copy;
 use buffers::copy_part;
 use buffers::fill;
 use buffers::sixteen;
+use buffers::some_nonzero;
 use morus::Key;
 use morus::Morus;
 use morus::Nonce;
@@ -53,6 +54,9 @@ fn frame_number(frame: &[u8]) -> u8
     }
     if sizes::MOST_MESSAGE < frame.len() - (sizes::FIXED + n) {
         return numbers::MESSAGE_TOO_LONG;
+    }
+    if !some_nonzero(&frame[..sizes::NONCE]) {
+        return numbers::ZERO_NONCE;
     }
     numbers::DONE
 }

@@ -3,6 +3,7 @@ use crate::Line;
 use crate::frame::seal_frame;
 use answers::numbers;
 use answers::sizes;
+use buffers::some_nonzero;
 use hex::Written;
 use morus::Key;
 use morus::Nonce;
@@ -11,14 +12,17 @@ ghost use Rattle.journal.specs.Writer.{writerNumber};
 ghost use Rattle.journal.specs.Promise.{LineWritten};
 
 // The number of the first of the writer's tests that fails, or 0.
-fn writer_number(n: usize, m: usize, room: usize) -> u8
-    ensures { λ r. ⌜ r ≡ writerNumber n m room ⌝ }
+fn writer_number(nonce: Nonce, n: usize, m: usize, room: usize) -> u8
+    ensures { λ r. ⌜ r ≡ writerNumber nonce n m room ⌝ }
 {
     if sizes::MOST_DATA < n {
         return numbers::DATA_TOO_LONG;
     }
     if sizes::MOST_MESSAGE < m {
         return numbers::MESSAGE_TOO_LONG;
+    }
+    if !some_nonzero(&nonce) {
+        return numbers::ZERO_NONCE;
     }
     if room < 2 * (sizes::FIXED + n + m) + 1 {
         return numbers::LINE_TOO_SMALL;
@@ -32,7 +36,7 @@ pub fn write_line(key: Key, nonce: Nonce, data: &[u8], message: &[u8], line: &mu
 {
     let n = data.len();
     let m = message.len();
-    let number = writer_number(n, m, line.len());
+    let number = writer_number(nonce, n, m, line.len());
     if number != numbers::DONE {
         return Line { number, length: 0 };
     }

@@ -45,6 +45,7 @@ pub(crate) fn not_sealed(line: u64, sealed: Sealed) {
         numbers::ODD => tell(b"odd number of digits (6)\n"),
         numbers::DATA_TOO_LONG => tell(b"over 64 bytes (8)\n"),
         numbers::MESSAGE_TOO_LONG => tell(b"over 256 bytes (10)\n"),
+        numbers::ZERO_NONCE => tell(b"sixteen zero bytes (22)\n"),
         _ => tell(b"no room for the line (15)\n"),
     }
     ;

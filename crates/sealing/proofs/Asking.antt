@@ -17,7 +17,8 @@ use Rattle.lines.specs.Said.{notSixteen, digitsOf, bytesIn, sixteenRows, sixtee
 use Rattle.lines.specs.Claims.{wordFor}
 use Rattle.lines.proofs.Parted.{last-word, first-word, next-word, spaces-joined}
 use Rattle.lines.proofs.Says.{Word, word}
-use Rattle.sealing.specs.Line.{countNumber}
+use Rattle.journal.specs.Writer.{writeInto}
+use Rattle.sealing.specs.Line.{countNumber, written, sealLine}
 use Rattle.sealing.specs.Claims.{asking}
 
 -- ---- the word for bytes
@@ -35,7 +36,7 @@ module _ (b : List ℕ) (h : Bytes b) where
   whole : eqb (length (digitsOf (wordFor b)) % 2) 0 ≡ true
   whole = eq-eqb (length (digitsOf (wordFor b)) % 2) 0 (rw (w .digits) (omega (arith, coded b h .len)))
 
-  pub back : bytesIn (wordFor b) ≡ b
+  back : bytesIn (wordFor b) ≡ b
   back = rw (w .digits) (coded b h .back)
 
   pub part-passes : (most longer : ℕ) → length b ≤ most → mostNumber (wordFor b) most longer ≡ 0
@@ -89,3 +90,21 @@ module _ (nonce ad message : List ℕ) (nb : Bytes nonce) (ab : Bytes ad) (mb : 
 
   pub three-said : countNumber (asking nonce ad message) ≡ 0
   three-said = rw three
+
+  -- within the sizes no word is wrong, and the writer says what there is to say
+  pub nothing-wrong : (key old : List ℕ) → length nonce ≡ 16 → length ad ≤ 64 → length message ≤ 256
+      → sealLine key (asking nonce ad message) old ≡ written (writeInto key nonce ad message old)
+  unfolding sealLine
+  nothing-wrong key old l16 l64 l256 =
+      rw (
+        three-said,
+        word0,
+        word1,
+        word2,
+        sixteen-passes nonce nb l16,
+        part-passes ad ab 64 _ l64,
+        part-passes message mb 256 _ l256,
+        back nonce nb,
+        back ad ab,
+        back message mb,
+      )

@@ -1,5 +1,5 @@
--- A line is sealed exactly if it asks for a nonce, data and a message within the sizes: from the words for them each
--- test passes, and tests that pass leave the words no choice.
+-- A line is sealed exactly if it asks for a nonce that is not all zeros, data and a message within the sizes: from the
+-- words for them each test passes, and tests that pass leave the words no choice.
 use Prim.Native.Nat.{ℕ, _/_, _≤_}
 use mathlib.Core.Path.{_≡_, refl, sym, _∙_}
 use mathlib.Core.Logic.{_⊎_, inl, inr}
@@ -11,6 +11,7 @@ use lib.Dec.{T, ltb, eqb}
 use borrow.Author.Tests.{le-leb, leb-true, eqb-true}
 use Rattle.answers.specs.Sizes.{mostData, mostMessage}
 use Rattle.answers.proofs.Rows.{zero-pass, pass-zero}
+use Rattle.buffers.proofs.Nonzero.{nonzero-some}
 use Rattle.hex.proofs.Index.{unhex-length}
 use Rattle.lines.specs.Words.{space, countOf, behindSpace, wordOf}
 use Rattle.lines.specs.Said.{digitsOf, bytesIn, sixteenRows, sixteenNumber, saidRows, mostRows, mostNumber}
@@ -27,47 +28,35 @@ use Rattle.sealing.specs.Line.{
   messageNumber,
   Sealing,
   unless,
-  written,
   sealLine,
 }
 use Rattle.sealing.specs.Wrong.{notThree}
 use Rattle.sealing.specs.Claims.{asking, Asked, sealed}
 use Rattle.sealing.proofs.Tests.{said-of, written-number}
-use Rattle.sealing.proofs.Asking.{back, part-passes, sixteen-passes, word0, word1, word2, three-said}
+use Rattle.sealing.proofs.Asking.{nothing-wrong}
 
 -- ---- the line that asks
 
 module _ (key nonce ad message old : List ℕ) (f : Fits nonce ad message) where
-  nothing-wrong : sealLine key (asking nonce ad message) old ≡ written (writeInto key nonce ad message old)
-  unfolding sealLine
-  nothing-wrong =
-      rw (
-        three-said nonce ad message (f .nonceBytes) (f .adBytes) (f .messageBytes),
-        word0 nonce ad message (f .nonceBytes) (f .adBytes) (f .messageBytes),
-        word1 nonce ad message (f .nonceBytes) (f .adBytes) (f .messageBytes),
-        word2 nonce ad message (f .nonceBytes) (f .adBytes) (f .messageBytes),
-        sixteen-passes nonce (f .nonceBytes) (f .nonce16),
-        part-passes ad (f .adBytes) mostData _ (f .ad64),
-        part-passes message (f .messageBytes) mostMessage _ (f .message256),
-        back nonce (f .nonceBytes),
-        back ad (f .adBytes),
-        back message (f .messageBytes),
-      )
-
-  -- what asks for bytes within the sizes is sealed, where there is room
+  -- what asks for such bytes is sealed, where there is room
   pub asked : lineLength (length ad) (length message) ≤ length old
       → sealLine key (asking nonce ad message) old ≡ sealed key nonce ad message old
   unfolding writeInto writerNumber writerRows writing
   asked l =
-      let z : writerNumber (length ad) (length message) (length old) ≡ 0 =
-      pass-zero (writerRows (length ad) (length message) (length old)) (
+      let z : writerNumber nonce (length ad) (length message) (length old) ≡ 0 =
+      pass-zero (writerRows nonce (length ad) (length message) (length old)) (
         le-leb (length ad) mostData (f .ad64),
         (
           le-leb (length message) mostMessage (f .message256),
-          (le-leb (lineLength (length ad) (length message)) (length old) l, tt),
+          (
+            nonzero-some nonce (f .set),
+            (le-leb (lineLength (length ad) (length message)) (length old) l, tt),
+          ),
         ),
       ) in
-      nothing-wrong ∙ rw z
+      nothing-wrong nonce ad message (f .nonceBytes) (f .adBytes) (f .messageBytes) key old (f .nonce16) (f .ad64)
+      (f .message256)
+      ∙ rw z
 
 -- ---- tests that pass
 
@@ -123,7 +112,7 @@ three-words line e =
     let q = parted (behindSpace line) 0 (p .rest) in
     sym (rw (last-word (behindSpace (behindSpace line)) (q .rest), q .joined) (p .joined))
 
--- what is sealed asks for bytes within the sizes, and there is room
+-- what is sealed asks for such bytes, and there is room
 pub only : (key line old : List ℕ) → sealLine key line old .report .number ≡ 0 → Asked line (length old)
 unfolding sealLine writeInto
 only key line old e =
@@ -134,6 +123,7 @@ only key line old e =
     let v = nonce-passed (wordOf 0 line) (b .0) in
     let n = part-passed (wordOf 1 line) mostData _ tt (c .0) in
     let m = part-passed (wordOf 2 line) mostMessage _ tt (d .0) in
+    let w = writer-pass _ _ _ _ (written-number _ old _ _ 0 (d .1)) in
     record {
       nonce = bytesIn (wordOf 0 line);
       ad = bytesIn (wordOf 1 line);
@@ -141,6 +131,7 @@ only key line old e =
       fits =
           record {
             nonce16 = v .sixteen;
+            set = w .set;
             ad64 = n .few;
             message256 = m .few;
             nonceBytes = v .says .bytes;
@@ -148,5 +139,5 @@ only key line old e =
             messageBytes = m .says .bytes;
           };
       is = rw (← v .says .is, ← n .says .is, ← m .says .is) (three-words line (count-three (countOf line) (a .0)));
-      enough = writer-pass _ _ _ (written-number _ old _ _ 0 (d .1)) .fits;
+      enough = w .fits;
     }

@@ -1,13 +1,16 @@
--- Refusals: nothing is written, the first wrong word is named, and of a line that asks for too much it is said why,
--- with literals.
-use Prim.Native.Nat.{ℕ, zero, suc, _≤_, _<_}
+-- Refusals: nothing is written, the first word that does not say bytes of its size is named, and of a line that asks
+-- for what is refused it is said why, with literals.
+use Prim.Native.Nat.{ℕ, zero, suc, _+_, _*_, _≤_, _<_}
 use mathlib.Core.Path.{_≡_, refl}
 use mathlib.Core.Bool.{Bool, true, false, cond}
 use mathlib.Core.List.{List}
 use lib.ListN.{length}
 use lib.Dec.{eqb}
-use borrow.Author.Tests.{ne-eqb}
-use Rattle.buffers.specs.Bytes.{Bytes}
+use borrow.Author.Tests.{le-leb, lt-leb, ne-eqb}
+use Rattle.answers.specs.Sizes.{mostData, mostMessage}
+use Rattle.answers.specs.Rows.{firstFailing}
+use Rattle.buffers.specs.Bytes.{Bytes, Zeros, Nonzero}
+use Rattle.buffers.proofs.Nonzero.{zeros-not, nonzero-some}
 use Rattle.lines.specs.Words.{countOf, wordOf}
 use Rattle.lines.specs.Said.{sixteenNumber}
 use Rattle.lines.specs.Claims.{wordFor}
@@ -21,7 +24,7 @@ use Rattle.sealing.specs.Line.{
   written,
   sealLine,
 }
-use Rattle.journal.specs.Writer.{writing, writeInto}
+use Rattle.journal.specs.Writer.{writerRows, writerNumber, writing, writeInto}
 use Rattle.sealing.specs.Claims.{asking, Refused, Untouched, Named, Codes}
 use Rattle.sealing.proofs.Asking.{
   part-passes,
@@ -32,6 +35,7 @@ use Rattle.sealing.proofs.Asking.{
   word1,
   word2,
   three-said,
+  nothing-wrong,
 }
 
 module _ (key nonce ad message old : List ℕ) (nb : Bytes nonce) (ab : Bytes ad) (mb : Bytes message) where
@@ -68,6 +72,29 @@ module _ (key nonce ad message old : List ℕ) (nb : Bytes nonce) (ab : Bytes ad
         let x : messageNumber (asking nonce ad message) ≡ 10 = rw m (part-too-long message mb 256 _ l) in
         let y : dataNumber (asking nonce ad message) ≡ 0 = rw d (part-passes ad ab 64 _ h) in
         record { report = rw (t, v, s, y, x); buffer = rw (t, v, s, y, x) }
+
+    -- the nonce that nobody set, where there is nothing else to say
+    pub zero-nonce : length ad ≤ 64 → length message ≤ 256 → Zeros nonce
+        → Refused (sealLine key (asking nonce ad message) old) 1 22 old
+    unfolding writeInto writing writerNumber writerRows firstFailing
+    zero-nonce h l z =
+        let e = nothing-wrong nonce ad message nb ab mb key old sixteen h l in
+        let x = le-leb (length ad) mostData h in
+        let y = le-leb (length message) mostMessage l in
+        record { report = rw (e, x, y, zeros-not nonce z); buffer = rw (e, x, y, zeros-not nonce z) }
+
+    -- too little room, where there is nothing else to say: no word is named
+    pub no-room : length ad ≤ 64 → length message ≤ 256 → Nonzero nonce
+        → length old < 2 * (33 + length ad + length message) + 1
+        → Refused (sealLine key (asking nonce ad message) old) 0 15 old
+    unfolding writeInto writing writerNumber writerRows firstFailing
+    no-room h l z r =
+        let e = nothing-wrong nonce ad message nb ab mb key old sixteen h l in
+        let x = le-leb (length ad) mostData h in
+        let y = le-leb (length message) mostMessage l in
+        let w = nonzero-some nonce z in
+        let k = lt-leb _ _ r in
+        record { report = rw (e, x, y, w, k); buffer = rw (e, x, y, w, k) }
 
 -- ---- any line
 

@@ -8,9 +8,12 @@ use native.Mathlib.Omega.{arith}
 use lib.ListN.{length}
 use lib.Dec.{eqb}
 use borrow.Author.Tests.{le-leb}
-use Rattle.answers.proofs.Rows.{first-not, pass-zero}
+use Rattle.answers.specs.Numbers.{zeroNonce}
+use Rattle.answers.specs.Rows.{firstFailing}
+use Rattle.answers.proofs.Rows.{first-not}
+use Rattle.buffers.specs.Find.{someNonzero}
 use Rattle.lines.specs.Words.{countOf, wordOf}
-use Rattle.lines.specs.Said.{bytesIn, sixteenRows, saidRows, mostRows}
+use Rattle.lines.specs.Said.{sixteenRows, saidRows, mostRows}
 use Rattle.journal.specs.Line.{lineLength}
 use Rattle.journal.specs.Writer.{writerRows, writerNumber, writeInto}
 use Rattle.sealing.specs.Line.{countNumber, nonceNumber, dataNumber, messageNumber, sealLine}
@@ -37,11 +40,14 @@ not-message : (line : List ℕ) → messageNumber line ≡ 15 → ⊥
 unfolding saidRows
 not-message line = first-not 15 (mostRows (wordOf 2 line) _ _) (omega arith) tt
 
-writes : (n m room : ℕ) → n ≤ 64 → m ≤ 256 → 707 ≤ room → writerNumber n m room ≡ 0
-unfolding writerNumber writerRows
-writes n m room d e l =
-    pass-zero (writerRows n m room)
-    (le-leb n 64 d, (le-leb m 256 e, (le-leb (lineLength n m) room (omega arith), tt)))
+not-written : (nonce : List ℕ) (n m room : ℕ) → n ≤ 64 → m ≤ 256 → 707 ≤ room → writerNumber nonce n m room ≡ 15 → ⊥
+unfolding writerNumber writerRows firstFailing
+not-written nonce n m room d e l x =
+    go (someNonzero nonce) (rw (le-leb n 64 d, le-leb m 256 e, le-leb (lineLength n m) room (omega arith)) at x)
+  where
+    go : (b : Bool) → cond b 0 zeroNonce ≡ 15 → ⊥
+    go true e = omega arith
+    go false e = omega arith
 
 further : {A N R : Type 0} → (A → ⊥) → (N × A) ⊎ R → R
 further h (inl (n, a)) = absurd (h a)
@@ -56,8 +62,4 @@ roomy key line old l e =
     let d = further (not-message line) (said-of _ (messageNumber line) 15 old _ (c .1)) in
     let n = part-passed (wordOf 1 line) 64 _ tt (c .0) in
     let m = part-passed (wordOf 2 line) 256 _ tt (d .0) in
-    omega (
-      arith,
-      writes (length (bytesIn (wordOf 1 line))) (length (bytesIn (wordOf 2 line))) (length old) (n .few) (m .few) l,
-      written-number _ old _ _ 15 (d .1),
-    )
+    not-written _ _ _ _ (n .few) (m .few) l (written-number _ old _ _ 15 (d .1))

@@ -16,7 +16,7 @@ use Rattle.lines.proofs.Digits.{tested, some, digits, even, room, by-number}
 use Rattle.journal.specs.declared.Line.{Line}
 use Rattle.journal.specs.Writer.{writing}
 use Rattle.journal.specs.Promise.{LineWritten}
-use Rattle.sealing.specs.Wrong.{none, nonceWord, dataWord, messageWord, wholeLine, notThree}
+use Rattle.sealing.specs.Wrong.{nonceWord, dataWord, messageWord, wholeLine, notThree}
 use Rattle.sealing.specs.Line.{
   countNumber,
   nonceNumber,
@@ -24,6 +24,7 @@ use Rattle.sealing.specs.Line.{
   messageNumber,
   Sealing,
   unless,
+  wordAbout,
   sealLine,
 }
 use Rattle.sealing.specs.Promise.{LineSealed}
@@ -89,7 +90,8 @@ module _ (key line out : List ℕ) where
 
         pub all-written : messageNumber line ≡ 0 → {r : Line} {out' : List ℕ}
             → LineWritten key (bytesIn (wordOf 0 line)) (bytesIn (wordOf 1 line)) (bytesIn (wordOf 2 line)) out r out'
-            → LineSealed key line out (record { word = none; number = r .number; length = r .length }) out'
+            → LineSealed key line out
+            (record { word = wordAbout (r .number); number = r .number; length = r .length }) out'
         unfolding sealLine
         all-written m w = record { report = rw (c, v, d, m, w .report); buffer = rw (c, v, d, m) (w .buffer) }
 

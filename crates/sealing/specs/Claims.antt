@@ -13,7 +13,7 @@ use Rattle.sealing.specs.Line.{nonceNumber, dataNumber, messageNumber, S
 abbrev pub asking : (nonce ad message : List ℕ) → List ℕ
 asking nonce ad message = wordFor nonce ++ 0x20 ∷ (wordFor ad ++ 0x20 ∷ wordFor message)
 
--- a line that asks for bytes within the sizes, whose sealed line fits into `room` bytes
+-- a line that asks for bytes within the sizes, the nonce not all zeros, whose sealed line fits into `room` bytes
 pub record Asked (line : List ℕ) (room : ℕ) : Type 0 where
   pub nonce : List ℕ
   pub ad : List ℕ
@@ -40,7 +40,7 @@ pub record Untouched (s : Sealing) (old : List ℕ) : Type 0 where
   pub nothing : s .report .length ≡ 0
   pub buffer : s .buffer ≡ old
 
--- which word is named, where a line has three: the first, from the left, that something is wrong with
+-- which word is named, where a line has three: the first, from the left, that does not say bytes of its size
 pub record Named (key line old : List ℕ) : Type 0 where
   pub first : (nonceNumber line ≡ 0 → ⊥) → Refused (sealLine key line old) 1 (nonceNumber line) old
   pub second : nonceNumber line ≡ 0 → (dataNumber line ≡ 0 → ⊥)

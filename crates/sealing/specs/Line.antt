@@ -1,9 +1,10 @@
--- What a line of three words, NONCE DATA MESSAGE, is sealed to; or the first word, from the left, that is wrong.
+-- What a line of three words, NONCE DATA MESSAGE, is sealed to; or the first word, from the left, that does not say
+-- bytes of its size, and then what the writer refuses.
 use Prim.Native.Nat.{ℕ}
 use mathlib.Core.Bool.{cond}
 use mathlib.Core.List.{List}
 use lib.Dec.{eqb}
-use Rattle.answers.specs.Numbers.{done, dataTooLong, messageTooLong}
+use Rattle.answers.specs.Numbers.{done, dataTooLong, messageTooLong, zeroNonce}
 use Rattle.answers.specs.Sizes.{mostData, mostMessage}
 use Rattle.lines.specs.Words.{countOf, wordOf}
 use Rattle.lines.specs.Said.{bytesIn, mostNumber, sixteenNumber}
@@ -37,11 +38,15 @@ abbrev pub unless : (word number : ℕ) → (old : List ℕ) → Sealing → Sea
 unless word number old rest =
     cond (eqb number done) rest (record { report = record { word = word; number = number; length = 0 }; buffer = old })
 
+-- the word that a number of the writer's is about
+abbrev pub wordAbout : (number : ℕ) → ℕ
+wordAbout number = cond (eqb number zeroNonce) nonceWord none
+
 -- as the journal's writer wrote it
 abbrev pub written : Writing → Sealing
 written w =
     record {
-      report = record { word = none; number = w .report .number; length = w .report .length };
+      report = record { word = wordAbout (w .report .number); number = w .report .number; length = w .report .length };
       buffer = w .buffer;
     }
 

@@ -13,6 +13,7 @@ ghost use mathlib.Core.Path.{_≡_};
 ghost use mathlib.Core.Bool.{cond};
 ghost use lib.Dec.{eqb};
 ghost use Rattle.hex.specs.Promise.{noRoom};
+ghost use Rattle.sealing.specs.Line.{wordAbout};
 ghost use Rattle.sealing.specs.Promise.{LineSealed};
 
 // The length of the sealed line and two zeros, or which word is wrong, why, and no length.
@@ -43,7 +44,18 @@ fn refused(word: u8, number: u8) -> Sealed
     }
 }
 
-// The sealed line of the words at the front of `out`, or the first word that is wrong, and then `out` is as it was.
+// The word that a number of the writer's is about.
+fn word_about(number: u8) -> u8
+    ensures { λ r. ⌜ r ≡ wordAbout number ⌝ }
+{
+    if number == numbers::ZERO_NONCE {
+        wrong::NONCE
+    } else {
+        wrong::NONE
+    }
+}
+
+// The sealed line of the words at the front of `out`, or which word is wrong, and then `out` is as it was.
 pub fn seal_line(key: Key, line: &[u8], out: &mut [u8]) -> Sealed
     ensures { λ r. ⌜ LineSealed key (now (line .entry)) (now (out .entry)) r (now (out .exit)) ⌝ }
 {
@@ -72,7 +84,7 @@ pub fn seal_line(key: Key, line: &[u8], out: &mut [u8]) -> Sealed
     let k = m.count;
     let written = write_line(key, nonce, &data[..n], &message[..k], out);
     Sealed {
-        word: wrong::NONE,
+        word: word_about(written.number),
         number: written.number,
         length: written.length,
     }

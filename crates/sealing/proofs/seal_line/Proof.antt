@@ -128,11 +128,12 @@ returns-4 c =
 
 returns-5 : tie.Need-returns-5
 returns-5 c =
-    let w : tie.After-write-line = c .before .before in
+    let w : tie.After-write-line = c .before .before .before in
     let e : tie.Else4 = w .before .before .before .before .before in
     let d : tie.Else3 = three e in
-    all-written _ _ _ (count-at (one (two d))) (nonce-at (two d)) (data-at d) (message-at e)
-    (rw (nonce-bytes (two d), data-good d .bytes, message-good e .bytes) at (w .write-line .ensures))
+    rw (c .word-about .ensures)
+    (all-written _ _ _ (count-at (one (two d))) (nonce-at (two d)) (data-at d) (message-at e)
+    (rw (nonce-bytes (two d), data-good d .bytes, message-good e .bytes) at (w .write-line .ensures)))
 
 pub seal-line-spec : {M : Type 1} → statement M
 seal-line-spec =
@@ -161,6 +162,7 @@ seal-line-spec =
     (λ c. sym (length-take-le _ _ (data-fits (three (c .before .before)))))
     (λ c. message-fits (c .before .before))
     (λ c. sym (length-take-le _ _ (message-fits (c .before .before .before))))
+    (λ c κs. search needs)
     (λ c κs. search needs)
     (λ c. search needs)
     returns-5)

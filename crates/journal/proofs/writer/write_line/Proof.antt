@@ -8,7 +8,7 @@ use lib.Seq.{length-take-le}
 use Rattle.answers.specs.Sizes.{fixed}
 use Rattle.hex.specs.Promise.{written}
 use Rattle.journal.specs.Writer.{writerNumber}
-use Rattle.journal.proofs.WriteLine.{GoodSizes, writer-pass, refused, Writes, writes}
+use Rattle.journal.proofs.WriteLine.{GoodWriting, writer-pass, refused, Writes, writes}
 use borrow.Author.Needs.{needs}
 use Rattle.journal.proofs.writer.write_line.Statement.{statement}
 use Rattle.journal.proofs.writer.write_line.Tie as tie
@@ -18,12 +18,14 @@ abbrev start : tie.Else1 → tie.Start
 start c = c .before .before .before .before .before
 
 passed : (c : tie.Else1) → let s = start c in
-    writerNumber (length (s .args .«data» .now)) (length (s .args .message .now)) (length (s .args .line .now)) ≡ 0
+    writerNumber (s .args .nonce) (length (s .args .«data» .now)) (length (s .args .message .now))
+    (length (s .args .line .now)) ≡ 0
 passed c = sym (c .before .writer-number .ensures) ∙ c .if1 .left
 
 good : (c : tie.Else1) → let s = start c in
-    GoodSizes (length (s .args .«data» .now)) (length (s .args .message .now)) (length (s .args .line .now))
-good c = writer-pass _ _ _ (passed c)
+    GoodWriting (s .args .nonce) (length (s .args .«data» .now)) (length (s .args .message .now))
+    (length (s .args .line .now))
+good c = writer-pass _ _ _ _ (passed c)
 
 at-report : (c : tie.After-write) → let s = start (c .before .before .before .before .before .before) in
     Writes (s .args .key) (s .args .nonce) (s .args .«data» .now) (s .args .message .now) (s .args .line .now) (c .write .result) (c .write .last .1 .0)
