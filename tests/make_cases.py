@@ -4,14 +4,18 @@ Every case is a pair (line, wanted): `line` is bytes without a newline, and `wan
 malformed on purpose, or None where the judge says what is right. Openings need what a sealing gave, so the
 makers take a function `ask` from lines to the judge's answers. The same seed gives the same cases.
 """
+import collections
 import pathlib
 import random
 
 LIMIT = 4096
+ZERO = bytes(16)
 EDGES = (0, 1, 31, 32, 33, 63, 64)
 LONGER = (65, 95, 96, 97, 127, 128, 129, 255, 256, 257, 1000, 4064, 4095, 4096)
 # lengths around the block's, all of them up to two blocks and a bit
 LENGTHS = tuple(range(67)) + (95, 96, 97, 127, 128, 129, 159, 160, 161, 191, 192, 193, 255, 256, 257, 319, 320, 321)
+# what many cases must have: the zero nonce is the journal's to refuse
+LOOKED_FOR = tuple(f"{name} of 0 with a zero nonce" for name in ("seal", "open", "seal2", "open2"))
 # lines as long as the program's buffer for input, or about
 FULL = (65534, 65535, 65536, 65537, 70000, 131071, 131072, 131073)
 
@@ -37,8 +41,9 @@ def some(rng, n):
 class Sealing:
     """A key, a nonce, data and a message, with the ciphertext and the tag that the judge gave."""
 
-    def __init__(self, rng, data, message):
+    def __init__(self, rng, data, message, nonce=None):
         self.key, self.nonce, self.data, self.message = some(rng, 16), some(rng, 16), some(rng, data), some(rng, message)
+        self.nonce = self.nonce if nonce is None else nonce
 
     def line(self):
         return line("seal", self.key, self.nonce, self.data, self.message)
@@ -137,7 +142,8 @@ def malformed(rng, s):
 
 
 def random_cases(count, seed, ask):
-    """`count` cases: the lengths of data and message go through all pairs around the blocks, in an order of the seed's."""
+    """`count` cases: the lengths of data and message go through all pairs around the blocks, in an order of the seed's.
+    One nonce in eight is zero."""
     rng = random.Random(seed)
     pairs, made = [], 0
     while made < count:
@@ -146,10 +152,11 @@ def random_cases(count, seed, ask):
             if not pairs:
                 pairs = [(a, b) for a in LENGTHS for b in LENGTHS]
                 rng.shuffle(pairs)
+            nonce = None if rng.randrange(8) else ZERO
             if rng.randrange(50):
-                group.append(Sealing(rng, *pairs.pop()))
+                group.append(Sealing(rng, *pairs.pop(), nonce))
             else:
-                group.append(Sealing(rng, *rng.sample([rng.choice(LONGER), rng.choice(LENGTHS)], 2)))
+                group.append(Sealing(rng, *rng.sample([rng.choice(LONGER), rng.choice(LENGTHS)], 2), nonce))
         for s, answer in zip(group, ask([s.line() for s in group])):
             s.take(answer)
         for s in group:
@@ -160,6 +167,14 @@ def random_cases(count, seed, ask):
             for case in cases[:count - made]:
                 made += 1
                 yield case
+
+
+def seen(batch, answers, ask):
+    """How often a batch has each of what is looked for."""
+    rows = [(case.split(b" "), answer.split(b" ")[0]) for case, answer in zip(batch, answers)]
+    zero = digits(ZERO).encode()
+    return collections.Counter(
+        f"{words[0].decode()} of {number.decode()} with a zero nonce" for words, number in rows if words[2] == zero)
 
 
 def vectors():
@@ -201,8 +216,21 @@ def fixed_cases(ask):
             if size >= 0 and size != n:
                 yield line("seal2", s.key, s.nonce, s.data, s.message, size), None
                 yield line("open2", s.key, s.nonce, s.data, s.text, s.tag, size), None
+    yield from zero_nonces(ask)
     yield from refused_cases(edges[24])
     yield edges[8].line(), None
+
+
+def zero_nonces(ask):
+    """The cipher takes sixteen zero bytes as it takes any nonce: sealed, opened, and refused for a tag and a size."""
+    rng = random.Random(22)
+    sealings = [Sealing(rng, n, m, ZERO) for n, m in ((0, 0), (0, 20), (5, 20), (64, 256), (33, 1000))]
+    for s, answer in zip(sealings, ask([s.line() for s in sealings])):
+        s.take(answer)
+        yield from ((text, None) for text in s.good())
+        yield from ((s.opening(two, tag=flipped(rng, s.tag)), None) for two in range(2))
+        yield line("seal2", s.key, s.nonce, s.data, s.message, len(s.message) + 1), None
+        yield line("open2", s.key, s.nonce, s.data, s.text, s.tag, len(s.text) + 1), None
 
 
 def refused_cases(s):

@@ -1,18 +1,27 @@
 """Cases of the journal for the program `cases`: `write` and `read`, in the form of make_cases.
 
 Journals are made of lines that the judge sealed: good ones, damaged, cut, joined and random ones, with empty lines as
-the log roller writes them, and the newline of the last one there or not. Each is read at every place where a line
-starts, and at some others.
+the log roller writes them, and the newline of the last one there or not. Some have a nonce of sixteen zero bytes, with
+the cipher's tag and with others, and some a nonce with one byte that is not zero. Each is read at every place where a
+line starts, and at some others.
 """
+import collections
 import random
 
-from make_cases import EDGES, LIMIT, flipped, line, some
+from make_cases import EDGES, LIMIT, ZERO, flipped, line, some
 
 SIZES = (0, 1, 352, 353, 354, 400, 1000)
 MOST = 2**64 - 1
 # what is no digit and ends no line: every such byte, and those that are nearest to being one
 BAD = bytes(sorted(set(range(256)) - set(b"0123456789abcdef\n")))
 NEAR = b"/:`g@GAF \r\0\xff"
+# what many cases must have
+LOOKED_FOR = (
+    "roll mark", "22 with the cipher's tag", "22 with another tag", "8, 9 or 10 with a zero nonce",
+    "opened line with one nonce byte", "1 with one nonce byte", "write of 22", "write of 22 with too small a buffer",
+    "write of 8 with a zero nonce", "write of 10 with a zero nonce", "written line with one nonce byte",
+    "write of 15 with one nonce byte",
+)
 
 
 class Reading:
@@ -41,22 +50,52 @@ def frame_line(frame):
     return frame.hex().encode() + b"\n"
 
 
+def lone(at, value):
+    """A nonce with one byte that is not zero."""
+    return bytes(at) + bytes([value]) + bytes(15 - at)
+
+
+def some_lone(rng):
+    return lone(rng.randrange(16), rng.choice((1, 128, rng.randrange(1, 256))))
+
+
+def some_nonce(rng):
+    """Of four nonces one is zero and one has one byte."""
+    return rng.choice((ZERO, some_lone(rng), some(rng, 16), some(rng, 16)))
+
+
+def framed(rng, key, nonces, lengths, ask):
+    """Lines with the cipher's tag under these nonces: the writer would not write each."""
+    parts = [(nonce, some(rng, n), some(rng, m)) for nonce, (n, m) in zip(nonces, lengths)]
+    answers = ask([line("seal", key, nonce, data, message) for nonce, data, message in parts])
+    assert all(answer.startswith(b"0 ") for answer in answers), answers
+    tails = [bytes.fromhex(b"".join(answer.split(b" ")[1:]).decode().replace("-", "")) for answer in answers]
+    return [frame_line(nonce + bytes([len(data)]) + data + tail) for (nonce, data, _), tail in zip(parts, tails)]
+
+
+def pool(rng, key, ask):
+    """The lines that journals are made of: six of any nonce, two with one byte in theirs, one with none."""
+    lengths = [(rng.choice(EDGES), rng.choice(EDGES + (20, 20, 255, 256))) for _ in range(9)]
+    nonces = [some_lone(rng), some_lone(rng), ZERO]
+    return sealed(rng, key, lengths[:6], ask) + framed(rng, key, nonces, lengths[6:], ask)
+
+
 def shaped(rng):
     """A line of digits with a frame of its own making: too short, n too large, n past the frame, m too large, or random."""
     kind = rng.randrange(6)
     if kind == 0:
         return frame_line(some(rng, rng.randrange(1, 33)))
     if kind == 1:
-        return frame_line(some(rng, 16) + bytes([rng.randrange(65, 256)]) + some(rng, rng.randrange(16, 337)))
+        return frame_line(some_nonce(rng) + bytes([rng.randrange(65, 256)]) + some(rng, rng.randrange(16, 337)))
     if kind == 2:
         n = rng.randrange(1, 65)
-        return frame_line(some(rng, 16) + bytes([n]) + some(rng, 15 + rng.randrange(1, n + 1)))
+        return frame_line(some_nonce(rng) + bytes([n]) + some(rng, 15 + rng.randrange(1, n + 1)))
     if kind == 3:
         n = rng.randrange(64)
-        return frame_line(some(rng, 16) + bytes([n]) + some(rng, 336))
+        return frame_line(some_nonce(rng) + bytes([n]) + some(rng, 336))
     if kind == 4:
         n = rng.randrange(65)
-        return frame_line(some(rng, 16) + bytes([n]) + some(rng, n + rng.randrange(257) + 16))
+        return frame_line(some_nonce(rng) + bytes([n]) + some(rng, n + rng.randrange(257) + 16))
     return some(rng, rng.randrange(1, 40)).replace(b"\n", b"") + b"\n"
 
 
@@ -70,8 +109,8 @@ def bad_digits(rng, text):
 
 def damaged(rng, text):
     """One line damaged: a digit, a byte, a byte more or less, cut, its newline lost, uppercase, doubled, too long, of
-    another shape, or with bytes that are no digits."""
-    kind = rng.randrange(13)
+    another shape, with bytes that are no digits, with a nonce of zeros or of one byte, or of zeros and another n."""
+    kind = rng.randrange(16)
     at = rng.randrange(len(text))
     if kind == 0:
         return text[:at] + bytes([rng.choice(b"0123456789abcdef")]) + text[at + 1:]
@@ -95,7 +134,11 @@ def damaged(rng, text):
         return text[:-1] + b"0" * (706 - (len(text) - 1) + rng.randrange(3)) + b"\n"
     if kind == 10:
         return shaped(rng)
-    return bad_digits(rng, text)
+    if kind in (11, 12, 13):
+        return bad_digits(rng, text)
+    if kind == 14:
+        return rng.choice((ZERO, ZERO, some_lone(rng))).hex().encode() + text[32:]
+    return (ZERO + some(rng, 1)).hex().encode() + text[34:]
 
 
 def journal(rng, lines, most=8):
@@ -130,18 +173,89 @@ def roll_mark(case, answer):
     return answer.startswith(b"16 ") and starts_line(case.split(b" ")[4], int(case.split(b" ")[2]))
 
 
+def one_byte(nonce):
+    return nonce.count(0) == 15
+
+
+def frame_at(text, place):
+    """The frame of a line that has its form; the text is in digits, as a case has it."""
+    return bytes.fromhex(bytes.fromhex(text[2 * place:].decode()).split(b"\n")[0].decode())
+
+
+def opening(key, frame):
+    """The cipher's case of a frame."""
+    start = 17 + frame[16]
+    return line("open", key.decode(), frame[:16], frame[17:start], frame[start:-16], frame[-16:])
+
+
+def of_line(number, key, text, place):
+    """What a line has of all that is looked for; where it is answered 22, the case that asks the cipher for its tag."""
+    if number not in (0, 1, 8, 9, 10, 22):
+        return "", []
+    frame = frame_at(text, place)
+    if number == 22:
+        return "22", [opening(key, frame)]
+    if one_byte(frame[:16]):
+        return {0: "opened line with one nonce byte", 1: "1 with one nonce byte"}.get(number, ""), []
+    return "8, 9 or 10 with a zero nonce" if frame[:16] == ZERO and number > 1 else "", []
+
+
+def of_tags(cases, ask):
+    """How many of the lines that are answered 22 have the cipher's tag, and how many another."""
+    right = sum(answer.startswith(b"0 ") for answer in ask(cases))
+    return collections.Counter({"22 with the cipher's tag": right, "22 with another tag": len(cases) - right})
+
+
+def of_write(number, words):
+    """What a write has of all that is looked for."""
+    nonce, data, message = (bytes.fromhex(word.decode().replace("-", "")) for word in words[2:5])
+    if one_byte(nonce):
+        return [{0: "written line with one nonce byte", 15: "write of 15 with one nonce byte"}.get(number, "")]
+    if nonce != ZERO:
+        return []
+    if number != 22:
+        return [f"write of {number} with a zero nonce"]
+    small = int(words[5]) < 2 * (33 + len(data) + len(message)) + 1
+    return ["write of 22"] + ["write of 22 with too small a buffer"] * small
+
+
+def seen(batch, answers, ask):
+    """How often a batch has each of what is looked for."""
+    found, tags = collections.Counter(), []
+    for case, answer in zip(batch, answers):
+        words, number = case.split(b" "), int(answer.split(b" ")[0])
+        if words[0] == b"write":
+            found.update(of_write(number, words))
+        else:
+            name, asked = of_line(number, words[1], words[4], int(words[2]))
+            found.update((name, "roll mark") if roll_mark(case, answer) else (name,))
+            tags += asked
+    return found + of_tags(tags, ask)
+
+
+def writes(rng, key):
+    """Writes with any nonce and any lengths, and one for each thing that is looked for."""
+    offs = [rng.choice((-1, 0, 0, 1, 300, -700)) for _ in range(4)]
+    drawn = [(some_nonce(rng), rng.randrange(70), rng.randrange(262), off) for off in offs]
+    n, m, off = rng.randrange(65), rng.randrange(257), rng.choice((-1, -700))
+    drawn += [
+        (ZERO, n, m, 0), (ZERO, n, m, off), (ZERO, rng.randrange(65, 70), rng.randrange(262), rng.choice((0, -700))),
+        (ZERO, n, rng.randrange(257, 262), rng.choice((0, -700))), (some_lone(rng), n, m, rng.choice((0, 1, 300))),
+        (some_lone(rng), n, m, off),
+    ]
+    for nonce, n, m, off in drawn:
+        size = max(0, 2 * (33 + n + m) + 1 + off)
+        yield line("write", key, nonce, some(rng, n), some(rng, m), size)
+
+
 def random_cases(count, seed, ask):
     """`count` cases, one line of a journal each or one written line."""
     rng = random.Random(seed)
     made = 0
     while made < count:
         key = some(rng, 16)
-        lengths = [(rng.choice(EDGES), rng.choice(EDGES + (20, 20, 255, 256))) for _ in range(6)]
-        lines = sealed(rng, key, lengths, ask)
-        cases = []
-        for n, m in ((rng.randrange(70), rng.randrange(262)) for _ in range(4)):
-            size = max(0, 2 * (33 + n + m) + 1 + rng.choice([-1, 0, 0, 1, 300, -700]))
-            cases.append(line("write", key, some(rng, 16), some(rng, n), some(rng, m), size))
+        lines = pool(rng, key, ask)
+        cases = list(writes(rng, key))
         for _ in range(12):
             text = journal(rng, lines)
             for place in places(rng, text):
@@ -210,3 +324,45 @@ def fixed_cases(ask):
     yield line("read", key, 0, 353, b""), None
     yield line("read", key, 0, 0, b""), None
     yield line("read", key, 1, 352, b""), None
+    yield from ((case, None) for case in zero_nonces(good, key, ask))
+
+
+def tampered(text):
+    """The line with its last digit changed."""
+    return text[:-2] + (b"1\n" if text[-2:-1] == b"0" else b"0\n")
+
+
+def zero_nonces(good, key, ask):
+    """The nonce of sixteen zero bytes, refused with 22 before 1 and 15 and behind all others; the nonces that are next
+    to it, one byte of 1 or 128 at each of the sixteen places; and some whose bytes or halves add up to none."""
+    rng = random.Random(22)
+    lengths = [(0, 0), (0, 20), (5, 20), (64, 0), (0, 256), (64, 256)]
+    zeros = framed(rng, key, [ZERO] * len(lengths), lengths, ask)
+    nonces = [lone(at, value) for value in (1, 128) for at in range(16)]
+    nonces += [b"\1" * 16, b"\x80" * 16, b"\xff" * 16, b"\x80" + bytes(14) + b"\x80", (b"\1" + bytes(7)) * 2]
+    ones = framed(rng, key, nonces, [(5, 20)] * len(nonces), ask)
+    zero, other = zeros[2], flipped(rng, key)
+    yield from (line("read", key, 0, 353, text) for text in zeros + [tampered(text) for text in zeros])
+    yield from (line("read", key, 0, 353, text) for text in ones + [tampered(text) for text in ones[:16]])
+    yield from (line("read", other, 0, 353, text) for text in (zero, ones[0], ones[15]))
+    yield from (line("read", key, 0, size, zero) for size in (0, 352, 354, 1000))
+    yield from (line("read", key, place, 353, zero) for place in (1, 2, 32, len(zero) - 1, len(zero), len(zero) + 1))
+    # a nonce damaged to zeros, a tag of zeros under nonces that are none, and what comes before 22 and behind it
+    cleared = [b"0" * 32 + text[32:] for text in (good, ones[0], ones[15])]
+    frames = [lone(0, 1) + bytes(17), lone(15, 1) + bytes(17)]
+    frames += [bytes([0] * 16 + [n]) + bytes(size - 17) for n, size in (
+        (0, 32), (65, 98), (64, 96), (1, 33), (1, 34), (64, 97), (0, 289), (0, 290), (64, 353), (63, 353), (255, 353))]
+    edges = [zero[:-1], zero[:-2] + b"\n", zero[:-2] + b"g\n", b"G" + zero[1:], b"0" * 67 + b"\n", zero[:64] + b"\n"]
+    edges += [zeros[-1][:-1] + b"0\n", zeros[-1][:-2] + b"00\n"]
+    yield from (line("read", key, 0, 353, text) for text in cleared + [frame_line(frame) for frame in frames] + edges)
+    for text in (good + zero + good, b"\n" + zero + b"\n" + zero, b"0g\n" + zero + tampered(good), zero[:-1] + good):
+        for place in [0] + [i + 1 for i, b in enumerate(text) if b == 10]:
+            yield line("read", key, place, 353, text)
+    for n, m, size in (
+        (0, 0, 67), (0, 20, 107), (5, 20, 707), (64, 256, 707), (0, 0, 66), (0, 0, 0), (5, 20, 116), (64, 256, 706),
+        (65, 0, 707), (65, 0, 0), (64, 257, 1000), (0, 257, 0), (65, 257, 0),
+    ):
+        yield line("write", key, ZERO, some(rng, n), some(rng, m), size)
+    yield from (line("write", key, nonce, some(rng, 5), some(rng, 20), 117) for nonce in nonces)
+    for nonce in (lone(0, 1), lone(15, 1), lone(0, 128), lone(15, 128)):
+        yield from (line("write", key, nonce, b"", b"", size) for size in (0, 66, 67))

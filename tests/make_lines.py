@@ -1,8 +1,13 @@
-"""Inputs for the program `seal`: key lines, and lines of words, good, wrong in each way, too long, and random.
+"""Inputs for the program `seal`: key lines, and lines of words, good, wrong in each way, too long, and random. Of ten
+nonces one is zero, and one has one byte that is not.
 
 The same seed gives the same inputs. No line says what is right: the Rust program beside `seal` does.
 """
+import collections
 import random
+
+from make_cases import ZERO
+from make_journals import one_byte, some_lone
 
 KEYS = [b"00112233445566778899aabbccddeeff\n"] * 50 + [
     b"00112233445566778899aabbccddeefF\n", b"00112233445566778899aabbccddeef\n", b"00112233445566778899aabbccddeeff0\n",
@@ -10,6 +15,8 @@ KEYS = [b"00112233445566778899aabbccddeeff\n"] * 50 + [
 ]
 # lines as long as the program's buffer for input, or about
 FULL = (65534, 65535, 65536, 65537, 131071, 131072, 131073)
+# what many lines must have
+LOOKED_FOR = ("22", "8 or 10 with a zero nonce", "sealed line with one nonce byte")
 
 
 def word(rng, sizes):
@@ -32,6 +39,11 @@ def word(rng, sizes):
     return digits
 
 
+def nonce_word(rng):
+    kind = rng.randrange(10)
+    return word(rng, (16,)) if kind > 1 else (some_lone(rng) if kind else ZERO).hex().encode()
+
+
 def line(rng):
     kind = rng.randrange(40)
     if kind == 0:
@@ -40,7 +52,9 @@ def line(rng):
         return rng.randbytes(rng.randrange(60)).replace(b"\n", b"")
     if kind == 2 and rng.randrange(20) == 0:
         return b"0" * rng.choice(FULL)
-    words = [word(rng, (16,)), word(rng, (0, 1, 5, 63, 64)), word(rng, (0, 1, 20, 255, 256))]
+    words = [nonce_word(rng), word(rng, (0, 1, 5, 63, 64)), word(rng, (0, 1, 20, 255, 256))]
+    if kind == 5:
+        return b" ".join([ZERO.hex().encode(), word(rng, (5, 64, 65, 100)), word(rng, (20, 256, 257, 300))])
     if kind == 3:
         return b" ".join(words[:2])
     if kind == 4:
@@ -56,3 +70,24 @@ def inputs(count, seed):
         lines = [line(rng) for _ in range(n)]
         yield rng.choice(KEYS) + b"\n".join(lines) + rng.choice((b"", b"\n")), n
         count -= n
+
+
+def of_line(text, why):
+    """What a line has of all that is looked for; `why` is what was said of it, nothing where it was sealed."""
+    digits = text.split(b" ")[0]
+    if why.endswith(b"(22)"):
+        return "22"
+    if digits == ZERO.hex().encode() and why.endswith((b"(8)", b"(10)")):
+        return "8 or 10 with a zero nonce"
+    return "sealed line with one nonce byte" if not why and one_byte(bytes.fromhex(digits.decode())) else ""
+
+
+def seen(given, told):
+    """What each line of an input has of all that is looked for, none behind a bad key, and how often; `told` is the
+    standard error."""
+    if told[0] == b"bad key":
+        return collections.Counter()
+    why = {int(row.split(b":")[0].split(b" ")[1]): row for row in told if row}
+    lines = given.split(b"\n")[1:]
+    lines = lines if lines[-1] else lines[:-1]
+    return collections.Counter(of_line(text, why.get(i, b"")) for i, text in enumerate(lines, 2))

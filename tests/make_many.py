@@ -3,18 +3,21 @@
 The journals are made as those of make_journals, some with more lines than there can be slots. Each is read from its
 start and from other places, with any number of slots, and with areas for the frames that fit them or do not.
 """
+import collections
 import itertools
 import random
 
-from make_cases import EDGES, LIMIT, UPPER, flipped, line, some
-from make_journals import MOST, frame_line, journal, places, sealed, starts_line
+from make_cases import LIMIT, UPPER, ZERO, flipped, line, some
+from make_journals import (
+    MOST, frame_line, framed, journal, lone, of_line, of_tags, places, pool, sealed, starts_line, tampered,
+)
 
 FRAME = 353
 SLOTS = LIMIT // FRAME
 PAST = (2**63, MOST - FRAME, MOST - 1, MOST)
 # the answers that say nothing of a line, and those that refuse one
 NO_LINE = (12, 14, 21)
-REFUSED = (1, 4, 5, 6, 7, 8, 9, 10, 11)
+REFUSED = (1, 4, 5, 6, 7, 8, 9, 10, 11, 22)
 # nothing, signs, other bytes, 2^64 with what is next to it, which is small if it goes round, and 21 digits
 NOT_NUMBERS = (
     b"", b"-", b"--", b"-1", b"+1", b"0x1", b"1x", b"1.0", b"1e3", b"a", b"18446744073709551616",
@@ -27,10 +30,11 @@ NAMES = (
     b"Many", b"MANY", b"man", b"manys", b"many2", b"read", b"write", b"open2", b"decode", b"newer", b"?", b"-", b"",
 )
 # what many cases must have
-LOOKED_FOR = {
+LOOKED_FOR = (
     "answer 21", "call without slots", "14 behind another answer", "call with 12 in every slot", "opened line",
-    "opened line behind a refused one", "roll mark",
-}
+    "opened line behind a refused one", "opened line behind a 22", "call with a roll mark", "22 with the cipher's tag",
+    "22 with another tag", "opened line with one nonce byte",
+)
 
 
 def slots_of(answer):
@@ -39,7 +43,7 @@ def slots_of(answer):
     return [numbers[i:i + 5] for i in range(0, len(numbers), 5)]
 
 
-def seen(case, answer):
+def of_call(case, answer):
     """What the case has of all that is looked for."""
     slots = slots_of(answer)
     numbers = [slot[0] for slot in slots]
@@ -52,9 +56,23 @@ def seen(case, answer):
         "call with 12 in every slot": len(numbers) > 1 and set(numbers) == {12},
         "opened line": 0 in numbers,
         "opened line behind a refused one": any(a in REFUSED and b == 0 for a, b in pairs),
-        "roll mark": any(slot[0] == 16 and starts_line(text, slot[4]) for slot in slots),
+        "opened line behind a 22": (22, 0) in pairs,
+        "call with a roll mark": any(slot[0] == 16 and starts_line(text, slot[4]) for slot in slots),
     }
-    return {what for what, there in found.items() if there}
+    return [what for what, there in found.items() if there]
+
+
+def seen(batch, answers, ask):
+    """How many cases of a batch have each of what is looked for; of nonces, how many slots."""
+    found, tags = collections.Counter(), []
+    for case, answer in zip(batch, answers):
+        found.update(of_call(case, answer))
+        words = case.split(b" ")
+        for slot in slots_of(answer):
+            name, asked = of_line(slot[0], words[1], words[5], slot[4])
+            found[name] += 1
+            tags += asked
+    return found + of_tags(tags, ask)
 
 
 def misfits(slots):
@@ -108,8 +126,7 @@ def rounds(rng, ask):
     """Six cases for a journal, again and again: five calls, and a sixth or a line that is no case."""
     while True:
         key = some(rng, 16)
-        lengths = [(rng.choice(EDGES), rng.choice(EDGES + (20, 20, 255, 256))) for _ in range(6)]
-        lines = sealed(rng, key, lengths, ask)
+        lines = pool(rng, key, ask)
         for _ in range(12):
             text = journal(rng, lines, rng.choice((8, 40)))
             spots = [*places(rng, text), rng.choice((len(text) + 1, *PAST))]
@@ -171,6 +188,30 @@ def fixed_cases(ask):
     yield many(flipped(rng, key), 0, 4, good + short + b"\n" + longest), None
     yield line("many", key, "0" * 19 + "1", "0" * 18 + "02", "0" * 17 + "706", b"\n" + short), None
     yield from ((row, b"?") for row in refused_lines(many(key, 0, 2, short)))
+    yield from ((case, None) for case in zero_nonces(good, key, ask))
+
+
+def zero_nonces(good, key, ask):
+    """Lines with a nonce of sixteen zero bytes alone, before opened lines, behind them and as many as there are slots,
+    with the cipher's tag and with another, and all nonces of one byte."""
+    rng = random.Random(2211)
+    zero, longest = framed(rng, key, [ZERO] * 2, [(5, 20), (64, 256)], ask)
+    nonces = [lone(at, 1 + 127 * (at % 2)) for at in range(16)]
+    ones = framed(rng, key, nonces, [(0, at) for at in range(16)], ask)
+    every = every_line(good)
+    for text, slots in (
+        (zero, 1), (zero, 2), (zero + good, 2), (tampered(zero) + good, 2), (good + zero + good, 4), (good + zero, 1),
+        (zero + b"\n" + zero + b"0g\n" + good, 6), (zero * SLOTS, SLOTS), (longest * 5, 6), (zero + zero[:-1], 3),
+        (zero[:-1] + good, 2), (b"".join(ones), SLOTS), (b"".join(ones[11:]), 6),
+        (b"".join(map(tampered, ones)), SLOTS),
+        (frame_line(bytes(33)) + frame_line(lone(15, 1) + bytes(17)) + frame_line(lone(0, 1) + bytes(17)), 3),
+        (b"".join([*every[:9], zero, *every[9:]]), SLOTS), (b"".join([zero, *every[1:]]), SLOTS),
+    ):
+        yield many(key, 0, slots, text)
+    for place in (1, 2, len(zero) - 1, len(zero), 2 * len(zero)):
+        yield many(key, place, 2, zero + zero)
+    yield many(flipped(rng, key), 0, 3, zero + good + ones[15])
+    yield line("many", key, 0, 2, 2 * FRAME - 1, zero + good)
 
 
 def refused_lines(good):

@@ -4,6 +4,7 @@ Counters are drawn around the edges of the refusals and of an f64, equal, one ap
 divisions are rounded; ticks around the half and the whole way round. No case needs another one's answer: `ask` is
 there since every maker takes it.
 """
+import collections
 import itertools
 import random
 import struct
@@ -33,7 +34,7 @@ NAMES = (
     b"seal", b"read", b"write", b"open2", b"?", b"-", b"",
 )
 # the answers that many cases must have: decode's numbers, and both of newer's
-ANSWERS = {"0", "17", "18", "19", "20", "newer 0", "newer 1"}
+LOOKED_FOR = tuple(f"answer {name}" for name in ("0", "17", "18", "19", "20", "newer 0", "newer 1"))
 
 
 def reading(tick, counters):
@@ -166,6 +167,12 @@ def rounds(rng):
         good += [newer(rng, two) for two in ticks]
         yield from ((text, None) for text in good)
         yield from ((malformed(rng, text), b"?") for text in (good[0], good[-1]))
+
+
+def seen(batch, answers, ask):
+    """How often a batch has each of what is looked for."""
+    rows = zip((case.startswith(b"newer ") for case in batch), (answer.split(b" ")[0].decode() for answer in answers))
+    return collections.Counter(f"answer newer {number}" if newer else f"answer {number}" for newer, number in rows)
 
 
 def random_cases(count, seed, ask):

@@ -5,6 +5,9 @@ use morus::Morus;
 /// What a refused reading leaves in every byte.
 pub const REFUSED: u8 = 0xaa;
 
+/// The nonce that nobody set: no line is written or opened under it.
+const ZERO_NONCE: [u8; 16] = [0; 16];
+
 const DIGITS: &[u8; 16] = b"0123456789abcdef";
 
 pub struct Line {
@@ -40,6 +43,9 @@ pub fn write_line(
     }
     if m > 256 {
         return refused(10);
+    }
+    if *nonce == ZERO_NONCE {
+        return refused(22);
     }
     let count = 33 + n + m;
     if line.len() < 2 * count + 1 {
@@ -113,6 +119,9 @@ fn open(count: usize, key: &[u8; 16], frame: &mut [u8]) -> Result<(usize, usize)
     let m = count - 33 - n;
     if m > 256 {
         return Err(10);
+    }
+    if frame[..16] == ZERO_NONCE {
+        return Err(22);
     }
     let (head, rest) = frame.split_at_mut(17 + n);
     let (text, rest) = rest.split_at_mut(m);

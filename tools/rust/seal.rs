@@ -53,6 +53,7 @@ fn seal(key: &[u8; 16], line: &[u8], out: &mut [u8]) -> Result<usize, String> {
     let sealed = journal::write_line(key, &nonce, &data[..n], &message[..m], out);
     match sealed.number {
         0 => Ok(sealed.length),
+        22 => Err("nonce: sixteen zero bytes (22)".to_string()),
         number => Err(format!("not sealed ({})", number)),
     }
 }
