@@ -1,5 +1,6 @@
-/* Votrikany from C: seals and opens a message, writes two readings into a journal with a roll mark between them, and
- * reads and decodes them, whole and damaged, line by line and all in one call.
+/* Votrikany from C: seals and opens a message, writes two readings into a journal with a roll mark between them, is
+ * refused a third whose nonce is all zeros, and reads and decodes the two, whole and damaged, line by line and all in
+ * one call.
  *   cc -Iinclude examples/library.c target/staticlib/libexport.a
  */
 #include <inttypes.h>
@@ -10,7 +11,7 @@
 static const uint8_t key[16] = "sixteen byte key";
 static const uint8_t ad[8] = "host=a17";
 
-/* The nonce of message `count`: with one key, each is used once. */
+/* The nonce of message `count`, from 1 on: with one key, each is used once, and the journal refuses sixteen zeros. */
 static void nonce_for(uint8_t count, uint8_t nonce[16])
 {
     memset(nonce, 0, 16);
@@ -123,6 +124,7 @@ int main(void)
     journal[end++] = '\n'; /* as the log roller does: an empty line is a roll mark, and no damage */
     pack(message, late, 33619968, 1048576);
     end = add_line(journal, end, sizeof journal, 3, message);
+    end = add_line(journal, end, sizeof journal, 0, message); /* no count: refused (22), and nothing is written */
     read_all(journal, end);
     read_at_once(journal, end);
     printf("tick %" PRIu32 " is newer than %" PRIu32 ": %d\n", late, early, votrikany_newer(late, early));

@@ -17,6 +17,7 @@
  *    8  over 64 bytes of data                20  resident is zero
  *    9  the frame ends before its data does  21  the frame area is not 353 bytes
  *   10  over 256 bytes of message                for each slot
+ *                                            22  the nonce is sixteen zero bytes
  *
  * What the caller owes. Nothing checks a caller that is not Rattle:
  *  - `key`, `nonce` and `tag` point to 16 bytes each. They, and the pointers to one size_t, double or uint32_t, are
@@ -31,7 +32,9 @@
  * They always return. What stack they need is measured and not proved: less than 4,096 bytes in every call that
  * tests/library/stack.c makes, with `memcpy` and `memset` linked in.
  *
- * A nonce must not be used twice with one key: no function can see that, and none checks it.
+ * A nonce must not be used twice with one key: no function can see that, and none checks it. One nonce the journal
+ * refuses: sixteen zero bytes, as where nobody set it, is neither written nor read, even if the tag is right (22). The
+ * functions that seal and open take it as any other.
  */
 #ifndef VOTRIKANY_H
 #define VOTRIKANY_H
@@ -68,7 +71,8 @@ enum {
     VOTRIKANY_COUNTER_TOO_LARGE = 18,
     VOTRIKANY_ACTIVE_ABOVE = 19,
     VOTRIKANY_RESIDENT_ZERO = 20,
-    VOTRIKANY_AREA_DIFFERS = 21
+    VOTRIKANY_AREA_DIFFERS = 21,
+    VOTRIKANY_ZERO_NONCE = 22
 };
 
 /* A frame is nonce (16), data count n (1), data (n), message or ciphertext (m), tag (16); a line is a frame in lowercase
@@ -84,6 +88,7 @@ enum {
 };
 
 /* Seals `text_length` bytes of message at `text` where they stand, bound to the data `ad`, and puts the tag at `tag`.
+ * Here and in the next three functions the nonce may be any sixteen bytes, zeros too: 22 is the journal's alone.
  *   0  `text` holds the ciphertext, `tag` the tag.
  *   2  `ad_length` or `text_length` is 2^61 or more: `text` is untouched, `tag` is sixteen zero bytes.
  */
@@ -118,8 +123,8 @@ uint8_t votrikany_open(const uint8_t *key, const uint8_t *nonce, const uint8_t *
 /* Seals data and a message into one line of the journal at the front of `line`, and puts the line's length at `size`.
  *   0  `line` begins with the line, newline included; the bytes behind it are as they were.
  *      `*size` is 2 * (33 + ad_length + message_length) + 1.
- *   8  `ad_length` is over 64; 10 `message_length` is over 256; 15 `line_length` is less than the line needs (in this order):
- *      `line` is untouched, `*size` is 0.
+ *   8  `ad_length` is over 64; 10 `message_length` is over 256; 22 all sixteen bytes of `nonce` are 0; 15 `line_length`
+ *      is less than the line needs (in this order): `line` is untouched, `*size` is 0.
  */
 uint8_t votrikany_write_line(const uint8_t *key, const uint8_t *nonce, const uint8_t *ad, size_t ad_length,
                              const uint8_t *message, size_t message_length, uint8_t *line, size_t line_length, size_t *size);
@@ -129,10 +134,12 @@ uint8_t votrikany_write_line(const uint8_t *key, const uint8_t *nonce, const uin
  *      Every byte behind the frame is 0xaa. `*n` and `*m` are the lengths of data and message.
  *      `*next` is one past the line's newline.
  *   Any other number: every byte of `frame` is 0xaa, `*n` and `*m` are 0. `*next` is one past the line's newline for 1,
- *   4 to 10 and 16, the journal's length for 11, and `place` for 12, 13 and 14.
- *   They are looked for in the order 13, 12, 14, 11, 16, 4, 5, 6, 7, 8, 9, 10, 1.
+ *   4 to 10, 16 and 22, the journal's length for 11, and `place` for 12, 13 and 14.
+ *   They are looked for in the order 13, 12, 14, 11, 16, 4, 5, 6, 7, 8, 9, 10, 22, 1.
  *   16 is a roll mark: an empty line with its newline, which a log roller writes at each roll. There is no reading in
  *   it, and nothing is wrong with it: who counts damage leaves it out.
+ *   22 is a line whose nonce is sixteen zero bytes, as a sampler seals that came up without its counter. Its tag is not
+ *   looked at, and may be right.
  *   With 5, `*at` is the place of the line's first byte that is not 0-9 or a-f, counted from the journal's start as
  *   `place` is; with every other number, 0 too, `*at` is `place`.
  * From place 0, with `*next` for the next place and a frame buffer of 353 bytes or more, a journal of L bytes answers
@@ -151,8 +158,9 @@ struct votrikany_slot {
  * above; frame i is the bytes 353 * i to 353 * i + 352 of `frames`.
  *   0  Slots and frames are what k calls of `votrikany_read_line` hand out, each with frame i for its frame buffer, the
  *      first from `place`, every other from the place that the one before gave. A line that is not opened has its
- *      number in its slot, and the call answers 0 all the same. Once a slot says 14, so does every one behind it; from
- *      a place beyond the end every slot says 12. `*next` is the last slot's next place; with no slot it is `place`.
+ *      number in its slot, by the order of `votrikany_read_line`, 22 before 1; the call answers 0 all the same. Once a
+ *      slot says 14, so does every one behind it; from a place beyond the end every slot says 12. `*next` is the last
+ *      slot's next place; with no slot it is `place`.
  *  21  `frames_length` is not 353 * k, which is looked at before all else: every byte of `frames` is 0xaa, each slot is
  *      21, place, 0, 0, place, and `*next` is `place`.
  *   With either, the words behind the last whole slot, at most four, are as they were.

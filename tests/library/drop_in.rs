@@ -45,29 +45,35 @@ fn opened(nonce: &Nonce, key: &Key, c: &[u8], tag: &Tag, ad: &[u8]) {
     println!("{}", told(Morus::new(nonce, key).decrypt(c, tag, ad)));
 }
 
+fn sealed(nonce: &Nonce, key: &Key, n: usize, m: usize, bytes: &mut Bytes) {
+    let (ad, message) = (bytes.some(n), bytes.some(m));
+    let (c, tag): (Vec<u8>, Tag) = Morus::new(nonce, key).encrypt(&message, &ad);
+    let mut buffer = message.clone();
+    let again: Tag = Morus::new(nonce, key).encrypt_in_place(&mut buffer, &ad);
+    println!(
+        "{} {} {} {} {} {}",
+        n,
+        m,
+        digits(&c),
+        digits(&tag),
+        digits(&buffer),
+        digits(&again)
+    );
+    opened(nonce, key, &c, &tag, &ad);
+    let mut other = tag;
+    other[bytes.next() as usize % 16] ^= 1;
+    opened(nonce, key, &c, &other, &ad);
+    opened(key, nonce, &c, &tag, &ad);
+}
+
 fn main() {
     let mut bytes = Bytes(1280);
     for n in [0, 1, 16, 31, 32, 33, 63, 64, 65, 100] {
         for m in [0, 1, 15, 31, 32, 33, 63, 64, 65, 96, 256, 1000] {
             let (key, nonce): (Key, Nonce) = (bytes.sixteen(), bytes.sixteen());
-            let (ad, message) = (bytes.some(n), bytes.some(m));
-            let (c, tag): (Vec<u8>, Tag) = Morus::new(&nonce, &key).encrypt(&message, &ad);
-            let mut buffer = message.clone();
-            let again: Tag = Morus::new(&nonce, &key).encrypt_in_place(&mut buffer, &ad);
-            println!(
-                "{} {} {} {} {} {}",
-                n,
-                m,
-                digits(&c),
-                digits(&tag),
-                digits(&buffer),
-                digits(&again)
-            );
-            opened(&nonce, &key, &c, &tag, &ad);
-            let mut other = tag;
-            other[bytes.next() as usize % 16] ^= 1;
-            opened(&nonce, &key, &c, &other, &ad);
-            opened(&key, &nonce, &c, &tag, &ad);
+            sealed(&nonce, &key, n, m, &mut bytes);
+            // The cipher takes a nonce of zeros as any other; the journal alone refuses it.
+            sealed(&[0; 16], &key, n, m, &mut bytes);
         }
     }
 }

@@ -3,9 +3,9 @@ use std::iter::FusedIterator;
 use votrikany::journal::{
     lines, read_line, read_lines, write_line, Answer, Entry, Line, Lines, Reading, ACTIVE_ABOVE,
     COUNTER_TOO_LARGE, END, FRAME_SIZE, LONGEST_LINE, NOT_TWENTY, READING_SIZE, RESIDENT_ZERO,
-    ROLL_MARK,
+    ROLL_MARK, ZERO_NONCE,
 };
-use votrikany::Key;
+use votrikany::{Error, Key, Morus, Nonce};
 
 /// A reading of the line at `place` in a text that ends with it, which is refused with a number and says a place.
 fn refused(text: &[u8], place: usize, number: u8, at: usize) {
@@ -37,6 +37,13 @@ fn zeros(digits: usize, n: u8) -> Vec<u8> {
     line
 }
 
+/// A line of zeros but for its nonce and its count n.
+fn with_nonce(digits: usize, n: u8) -> Vec<u8> {
+    let mut line = zeros(digits, n);
+    line[31] = b'1';
+    line
+}
+
 /// With 5 the place of the first byte that is no digit, from the journal's start; else the place given.
 fn places() {
     refused(b"0g\n", 0, 5, 1);
@@ -61,9 +68,12 @@ fn places() {
         (66, 65, 8),
         (66, 1, 9),
         (706, 0, 10),
-        (66, 0, 1),
+        (66, 0, ZERO_NONCE),
     ] {
         third_line(&zeros(digits, n), number, 4);
+    }
+    for (digits, n, number) in [(66, 65, 8), (66, 1, 9), (706, 0, 10), (66, 0, 1)] {
+        third_line(&with_nonce(digits, n), number, 4);
     }
     refused(b"\n0g\nabc", 4, 11, 4);
     refused(b"\n0g\n", 4, 14, 4);
@@ -93,6 +103,66 @@ fn roll_marks() {
     assert_eq!(numbers, [ROLL_MARK, 0, ROLL_MARK, ROLL_MARK, 5, 6, 0]);
     let small = read_line(b"\n", 0, &key, &mut [0; 352]);
     assert_eq!((small.number, small.next, small.at), (13, 0, 0));
+}
+
+/// The line of a frame that is made by hand, with the right tag whatever the nonce is.
+fn by_hand(key: &Key, nonce: &Nonce, data: &[u8], message: &[u8]) -> Vec<u8> {
+    let (text, tag) = Morus::new(nonce, key).encrypt(message, data);
+    let frame = [nonce, [data.len() as u8].as_slice(), data, &text, &tag].concat();
+    let digits: String = frame.iter().map(|byte| format!("{:02x}", byte)).collect();
+    [digits.as_bytes(), b"\n"].concat()
+}
+
+/// A nonce of zeros is neither written nor read, even with the right tag; the cipher takes it.
+fn zero_nonce() {
+    const ZERO: Nonce = [0; 16];
+    let (key, bytes) = ([7; 16], [9; 257]);
+    for (n, m, room, number) in [
+        (0, 0, 67, ZERO_NONCE),
+        (64, 256, 707, ZERO_NONCE),
+        (64, 256, 706, ZERO_NONCE),
+        (0, 0, 0, ZERO_NONCE),
+        (0, 257, 0, 10),
+        (65, 257, 0, 8),
+        (65, 0, 707, 8),
+    ] {
+        let mut line = [0x55; LONGEST_LINE];
+        let wrote = write_line(&key, &ZERO, &bytes[..n], &bytes[..m], &mut line[..room]);
+        assert_eq!(wrote, Line { number, length: 0 }, "{} {} {}", n, m, room);
+        assert_eq!(line, [0x55; LONGEST_LINE]);
+    }
+    for (n, m) in [(0, 0), (1, 0), (3, 2), (0, 20), (64, 256)] {
+        let (data, message) = (&bytes[..n], &bytes[..m]);
+        let (mut line, mut frame) = ([0; LONGEST_LINE], [0; FRAME_SIZE]);
+        let length = write_line(&key, &key, data, message, &mut line).length;
+        assert_eq!(by_hand(&key, &key, data, message), line[..length]);
+        let mut text = by_hand(&key, &ZERO, data, message);
+        refused(&text, 0, ZERO_NONCE, 0);
+        let entry = lines(&text, &key).next().unwrap();
+        assert_eq!(
+            (entry.answer.number, entry.frame),
+            (ZERO_NONCE, [0xaa; FRAME_SIZE])
+        );
+        assert!(entry.data().is_empty() && entry.message().is_empty());
+        assert_eq!(read_line(&text, 0, &[8; 16], &mut frame).number, ZERO_NONCE);
+        text[length - 2] = if text[length - 2] == b'0' { b'1' } else { b'0' };
+        refused(&text, 0, ZERO_NONCE, 0);
+        let (sealed, mut tag) = Morus::new(&ZERO, &key).encrypt(message, data);
+        let opened = Morus::new(&ZERO, &key).decrypt(&sealed, &tag, data);
+        assert_eq!(opened.as_deref(), Ok(message));
+        tag[0] ^= 1;
+        let opened = Morus::new(&ZERO, &key).decrypt(&sealed, &tag, data);
+        assert_eq!(opened, Err(Error::InvalidTag));
+    }
+    for (place, byte) in (0..16).flat_map(|place| [1, 0x80, 0xff].map(|byte| (place, byte))) {
+        let (mut nonce, mut line, mut frame) = (ZERO, [0; LONGEST_LINE], [0; FRAME_SIZE]);
+        nonce[place] = byte;
+        let length = write_line(&key, &nonce, b"host", b"reading", &mut line).length;
+        let answer = read_line(&line[..length], 0, &key, &mut frame);
+        assert_eq!(answer.number, 0, "{:?}", nonce);
+        assert_eq!(answer.message(&frame), b"reading");
+        assert_eq!(frame[..16], nonce);
+    }
 }
 
 /// K lines in one call and in K calls.
@@ -125,6 +195,7 @@ fn each_number(key: &Key) -> Vec<u8> {
     ] {
         text.extend([&zeros(digits, n), b"\n".as_slice(), &line[..length]].concat());
     }
+    text.extend([&with_nonce(66, 0), b"\n".as_slice(), &line[..length]].concat());
     text.extend(b"0g\nabc");
     text
 }
@@ -132,10 +203,10 @@ fn each_number(key: &Key) -> Vec<u8> {
 fn many_lines() {
     let key = [7; 16];
     let text = each_number(&key);
-    let numbers = read_lines(&text, 0, &key, &mut [[0; FRAME_SIZE]; 20]).0;
+    let numbers = read_lines(&text, 0, &key, &mut [[0; FRAME_SIZE]; 22]).0;
     assert_eq!(
         numbers.map(|answer| answer.number),
-        [ROLL_MARK, 0, 4, 0, 6, 0, 7, 0, 8, 0, 9, 0, 10, 0, 1, 0, 5, 11, END, END]
+        [ROLL_MARK, 0, 4, 0, 6, 0, 7, 0, 8, 0, 9, 0, 10, 0, ZERO_NONCE, 0, 1, 0, 5, 11, END, END]
     );
     for text in [&text, &text[..text.len() - 3], b"", b"\n\n", b"0g\n\nabc"] {
         let end = text.len();
@@ -154,7 +225,7 @@ fn many_lines() {
             as_many_calls::<1>(text, place, &key);
             as_many_calls::<2>(text, place, &key);
             as_many_calls::<7>(text, place, &key);
-            as_many_calls::<20>(text, place, &key);
+            as_many_calls::<22>(text, place, &key);
         }
     }
 }
@@ -255,7 +326,7 @@ fn iterator() {
         }
     }
     let text = each_number(&key);
-    assert_eq!(iterated(&text, &key), 18);
+    assert_eq!(iterated(&text, &key), 20);
     for end in 0..200 {
         iterated(&text[..end], &key);
         iterated(&text[text.len() - end..], &key);
@@ -281,7 +352,7 @@ fn iterator_used() {
     let (text, wanted) = journal_of(40, &key);
     assert!(readings_of(&text, &key).eq(wanted.iter().copied()));
     assert_eq!(damaged(&text, &key), 0);
-    assert_eq!(damaged(&each_number(&key), &key), 9);
+    assert_eq!(damaged(&each_number(&key), &key), 10);
     let three: Vec<_> = lines(b"0g\n\nabc", &key)
         .map(|line| (line.place, line.answer.number, line.frame))
         .collect();
@@ -435,6 +506,7 @@ fn main() {
     assert_eq!(small, [0x55; 66]);
     places();
     roll_marks();
+    zero_nonce();
     many_lines();
     readings();
     batches();

@@ -100,14 +100,15 @@ static void not_digit(const char *text, size_t length, size_t place, size_t at, 
     refused_at(text, length, place, VOTRIKANY_FRAME_SIZE, VOTRIKANY_NOT_DIGIT, length, at, what);
 }
 
-/* A line of `digits` zeros, with the count byte's two digits as given, behind another line. */
-static void frame_refused(size_t digits, const char *count, uint8_t number, const char *what)
+/* A line of `digits` zeros, with the four digits of the nonce's last byte and the count byte as given, behind another
+ * line. */
+static void frame_refused(size_t digits, const char *four, uint8_t number, const char *what)
 {
     char text[800];
     memset(text, '0', sizeof text);
     memcpy(text, "0g\n", 3);
     if (digits >= 34)
-        memcpy(text + 3 + 32, count, 2);
+        memcpy(text + 3 + 30, four, 4);
     text[3 + digits] = '\n';
     refused(text, 3 + digits + 1, 3, VOTRIKANY_FRAME_SIZE, number, 3 + digits + 1, what);
 }
@@ -120,14 +121,165 @@ static void reader(void)
     refused(NULL, 0, 0, 400, VOTRIKANY_END, 0, "no journal at null");
     refused("0g\nabc", 6, 3, 400, VOTRIKANY_NO_NEWLINE, 6, "no newline");
     refused("0g\nabc\n", 7, 3, 400, VOTRIKANY_ODD, 7, "an odd number of digits");
-    frame_refused(707, "00", VOTRIKANY_LINE_TOO_LONG, "707 digits");
-    frame_refused(64, "00", VOTRIKANY_FRAME_TOO_SHORT, "32 frame bytes");
-    frame_refused(66, "41", VOTRIKANY_DATA_TOO_LONG, "n = 65");
-    frame_refused(66, "01", VOTRIKANY_DATA_PAST_FRAME, "n = 1 in 33 frame bytes");
-    frame_refused(706, "00", VOTRIKANY_MESSAGE_TOO_LONG, "m = 320");
-    frame_refused(66, "00", VOTRIKANY_TAG_DIFFERS, "a frame of zeros");
+    frame_refused(707, "0100", VOTRIKANY_LINE_TOO_LONG, "707 digits");
+    frame_refused(64, "0100", VOTRIKANY_FRAME_TOO_SHORT, "32 frame bytes");
+    frame_refused(66, "0141", VOTRIKANY_DATA_TOO_LONG, "n = 65");
+    frame_refused(66, "0101", VOTRIKANY_DATA_PAST_FRAME, "n = 1 in 33 frame bytes");
+    frame_refused(706, "0100", VOTRIKANY_MESSAGE_TOO_LONG, "m = 320");
+    frame_refused(66, "0100", VOTRIKANY_TAG_DIFFERS, "a frame of zeros but for its nonce");
     refused("0g\nabc", 6, 3, 352, VOTRIKANY_BUFFER_TOO_SMALL, 3, "a frame buffer of 352 bytes, at 3");
     refused("0g\nabc", 6, (size_t)-1, 400, VOTRIKANY_PLACE_BEYOND, (size_t)-1, "the place of all ones");
+}
+
+/* Data and messages that are sealed here. */
+static const uint8_t sample[VOTRIKANY_MOST_MESSAGE] = { 7, 8, 9 };
+
+/* The line of a frame that is made by hand, with the right tag whatever the nonce is, and its length. */
+static size_t by_hand(const uint8_t *under, size_t n, size_t m, uint8_t *line)
+{
+    static const char digits[] = "0123456789abcdef";
+    uint8_t frame[VOTRIKANY_FRAME_SIZE], *text = frame + VOTRIKANY_DATA_AT + n;
+    size_t count = 33 + n + m;
+    memcpy(frame, under, 16);
+    frame[16] = (uint8_t)n;
+    memcpy(frame + VOTRIKANY_DATA_AT, sample, n);
+    votrikany_seal(key, under, sample, n, sample, m, text, m, text + m);
+    for (size_t i = 0; i < count; i++) {
+        line[2 * i] = (uint8_t)digits[frame[i] / 16];
+        line[2 * i + 1] = (uint8_t)digits[frame[i] % 16];
+    }
+    line[2 * count] = '\n';
+    return 2 * count + 1;
+}
+
+/* The writer: what it answers, and that it leaves all as it was. */
+static void not_written(size_t n, size_t m, size_t room, uint8_t number, const char *what)
+{
+    static const uint8_t bytes[VOTRIKANY_MOST_MESSAGE + 1] = { 7, 8, 9 };
+    uint8_t line[VOTRIKANY_LONGEST_LINE];
+    size_t size = 99;
+    memset(line, 0x55, sizeof line);
+    expect(votrikany_write_line(key, zero, bytes, n, bytes, m, line, room, &size) == number, what);
+    expect(size == 0 && all(line, sizeof line, 0x55), "the line buffer is untouched, the length 0");
+}
+
+static void zero_nonce_written(void)
+{
+    size_t size = 99;
+    not_written(0, 0, 67, VOTRIKANY_ZERO_NONCE, "a nonce of zeros, the shortest line");
+    not_written(3, 2, 77, VOTRIKANY_ZERO_NONCE, "a nonce of zeros, with room to the byte");
+    not_written(64, 256, 707, VOTRIKANY_ZERO_NONCE, "a nonce of zeros, the longest line");
+    not_written(64, 256, 706, VOTRIKANY_ZERO_NONCE, "22 comes before 15");
+    not_written(0, 0, 0, VOTRIKANY_ZERO_NONCE, "22 comes before 15, with no room");
+    not_written(0, 257, 707, VOTRIKANY_MESSAGE_TOO_LONG, "10 comes before 22");
+    not_written(0, 257, 0, VOTRIKANY_MESSAGE_TOO_LONG, "10 comes before 22 and 15");
+    not_written(65, 0, 707, VOTRIKANY_DATA_TOO_LONG, "8 comes before 22");
+    not_written(65, 257, 0, VOTRIKANY_DATA_TOO_LONG, "8 comes before 10, 22 and 15");
+    uint8_t gave = votrikany_write_line(key, zero, NULL, 0, NULL, 0, NULL, 0, &size);
+    expect(gave == VOTRIKANY_ZERO_NONCE && size == 0, "a nonce of zeros, and all else at null");
+}
+
+/* A line that would be opened but for its nonce: alone, between others, and with its tag or its form wrong too. */
+static void zero_nonce_line(size_t n, size_t m)
+{
+    uint8_t text[3 + VOTRIKANY_LONGEST_LINE + 2] = "0g\n";
+    const char *line = (const char *)text + 3, *first = (const char *)text;
+    size_t size = by_hand(nonce, n, m, text + 3), wrote;
+    uint8_t own[VOTRIKANY_LONGEST_LINE], *last = text + 3 + size - 2;
+    uint8_t gave = votrikany_write_line(key, nonce, sample, n, sample, m, own, sizeof own, &wrote);
+    expect(gave == VOTRIKANY_DONE && wrote == size && memcmp(own, line, size) == 0, "the writer's line, made by hand");
+    expect(by_hand(zero, n, m, text + 3) == size, "a line by hand under a nonce of zeros");
+    memcpy(text + 3 + size, "0\n", 2);
+    refused(line, size, 0, VOTRIKANY_FRAME_SIZE, VOTRIKANY_ZERO_NONCE, size, "the right tag, and a nonce of zeros");
+    refused(line, size, 0, 400, VOTRIKANY_ZERO_NONCE, size, "the same, with a larger frame buffer");
+    refused(first, 3 + size + 2, 3, 400, VOTRIKANY_ZERO_NONCE, 3 + size, "the same, between two other lines");
+    refused(line, size, 0, 352, VOTRIKANY_BUFFER_TOO_SMALL, 0, "13 comes before 22");
+    refused(line, size - 1, 0, 400, VOTRIKANY_NO_NEWLINE, size - 1, "11 comes before 22");
+    refused(line, size, 1, 400, VOTRIKANY_ODD, size, "6 comes before 22");
+    *last = *last == '0' ? '1' : '0';
+    refused(line, size, 0, 400, VOTRIKANY_ZERO_NONCE, size, "22 comes before 1, with another tag");
+    *last = 'g';
+    refused_at(line, size, 0, 400, VOTRIKANY_NOT_DIGIT, size, size - 2, "5 comes before 22");
+}
+
+static void zero_nonce_read(void)
+{
+    zero_nonce_line(0, 0);
+    zero_nonce_line(0, 20);
+    zero_nonce_line(1, 0);
+    zero_nonce_line(3, 2);
+    zero_nonce_line(64, 256);
+    frame_refused(66, "0000", VOTRIKANY_ZERO_NONCE, "a frame of zeros");
+    frame_refused(578, "0000", VOTRIKANY_ZERO_NONCE, "a frame of zeros, m = 256");
+    frame_refused(580, "0000", VOTRIKANY_MESSAGE_TOO_LONG, "10 comes before 22");
+    frame_refused(66, "0001", VOTRIKANY_DATA_PAST_FRAME, "9 comes before 22");
+    frame_refused(66, "0041", VOTRIKANY_DATA_TOO_LONG, "8 comes before 22");
+    frame_refused(64, "0000", VOTRIKANY_FRAME_TOO_SHORT, "7 comes before 22");
+    frame_refused(707, "0000", VOTRIKANY_LINE_TOO_LONG, "4 comes before 22");
+}
+
+/* A line under a nonce is written, as by hand, and read back. */
+static int journaled(const uint8_t *under)
+{
+    uint8_t line[VOTRIKANY_LONGEST_LINE], hand[VOTRIKANY_LONGEST_LINE], frame[VOTRIKANY_FRAME_SIZE];
+    size_t size, next, n, m, at;
+    uint8_t wrote = votrikany_write_line(key, under, sample, 3, sample, 2, line, sizeof line, &size);
+    if (wrote != VOTRIKANY_DONE || size != by_hand(under, 3, 2, hand) || memcmp(line, hand, size) != 0)
+        return 0;
+    uint8_t gave = votrikany_read_line(line, size, 0, key, frame, sizeof frame, &next, &n, &m, &at);
+    return gave == VOTRIKANY_DONE && n == 3 && m == 2 && memcmp(frame, under, 16) == 0
+        && memcmp(frame + 16, "\3\7\10\11\7\10", 6) == 0;
+}
+
+/* One byte that is not zero is enough, whatever it is and wherever it stands; several never cancel each other out. */
+static void nonces_taken(void)
+{
+    uint8_t under[16];
+    int alike = 1;
+    for (size_t place = 0; place < sizeof under; place++) {
+        int taken = 1;
+        for (int byte = 1; byte < 256; byte++) {
+            memset(under, 0, sizeof under);
+            under[place] = (uint8_t)byte;
+            taken &= journaled(under);
+        }
+        expect(taken, "one byte of the nonce is not zero, each in its turn");
+    }
+    for (int byte = 1; byte < 256; byte++) {
+        memset(under, byte, sizeof under);
+        alike &= journaled(under);
+    }
+    expect(alike, "sixteen equal bytes that are not zero");
+    memset(under, 0, sizeof under);
+    under[3] = 1, under[9] = 0xff;
+    expect(journaled(under), "two bytes whose sum is 256");
+    under[9] = 1;
+    expect(journaled(under), "two equal bytes");
+}
+
+/* The cipher takes a nonce of zeros as any other: what is sealed is opened, in place too, and not with another tag. */
+static void zero_nonce_sealed(size_t n, size_t m)
+{
+    uint8_t out[VOTRIKANY_MOST_MESSAGE], text[VOTRIKANY_MOST_MESSAGE], tag[16], again[16];
+    memcpy(text, sample, m);
+    expect(votrikany_seal(key, zero, sample, n, sample, m, out, m, tag) == VOTRIKANY_DONE, "sealing under zeros");
+    expect(votrikany_seal_in_place(key, zero, sample, n, text, m, again) == VOTRIKANY_DONE, "the same in place");
+    expect(memcmp(out, text, m) == 0 && memcmp(tag, again, 16) == 0, "both seal alike");
+    expect(votrikany_open_in_place(key, zero, sample, n, text, m, tag) == VOTRIKANY_DONE, "opening in place");
+    expect(memcmp(text, sample, m) == 0, "the message is back");
+    memset(text, 0x55, sizeof text);
+    expect(votrikany_open(key, zero, sample, n, out, m, tag, text, m) == VOTRIKANY_DONE, "opening under zeros");
+    expect(memcmp(text, sample, m) == 0, "the message is back, in a second buffer");
+    tag[15] ^= 1;
+    expect(votrikany_open(key, zero, sample, n, out, m, tag, text, m) == VOTRIKANY_TAG_DIFFERS, "another tag");
+    expect(all(text, m, 0xaa), "the second buffer is 0xaa");
+}
+
+static void zero_nonce_ciphered(void)
+{
+    zero_nonce_sealed(0, 0);
+    zero_nonce_sealed(3, 2);
+    zero_nonce_sealed(64, 256);
 }
 
 /* An empty line with its newline; a line of one byte is none. */
@@ -199,9 +351,9 @@ static void opened(void)
 /* Slots are handed over as words, which is allowed only where nothing stands between the members. */
 typedef char a_slot_is_five_words[sizeof(struct votrikany_slot) == VOTRIKANY_SLOT_SIZE * sizeof(size_t) ? 1 : -1];
 
-/* What a call of many lines is lent: words and an area for up to 13 slots, with something before and behind each, and
+/* What a call of many lines is lent: words and an area for up to 15 slots, with something before and behind each, and
  * the area at an odd address. What is before and behind is compared too. */
-enum { SLOT = VOTRIKANY_SLOT_SIZE, FRAME = VOTRIKANY_FRAME_SIZE, WORDS = 13 * SLOT, AREA = 13 * FRAME, EDGE = 401 };
+enum { SLOT = VOTRIKANY_SLOT_SIZE, FRAME = VOTRIKANY_FRAME_SIZE, WORDS = 15 * SLOT, AREA = 15 * FRAME, EDGE = 401 };
 
 struct lent {
     size_t before[4], words[WORDS], behind[4], next;
@@ -283,31 +435,31 @@ static void as_many_calls(const uint8_t *text, size_t length, const char *what)
 static uint8_t mixed[8000];
 static size_t mixed_length;
 
-static void add_digits(size_t digits, const char *count)
+static void add_digits(size_t digits, const char *four)
 {
     memset(mixed + mixed_length, '0', digits);
     if (digits >= 34)
-        memcpy(mixed + mixed_length + 32, count, 2);
+        memcpy(mixed + mixed_length + 30, four, 4);
     mixed_length += digits;
     mixed[mixed_length++] = '\n';
 }
 
 static void add_sealed(size_t data, size_t message)
 {
-    static const uint8_t bytes[VOTRIKANY_MOST_MESSAGE] = { 7, 8, 9 };
     uint8_t *end = mixed + mixed_length;
     size_t size;
-    votrikany_write_line(key, nonce, bytes, data, bytes, message, end, sizeof mixed - mixed_length, &size);
+    votrikany_write_line(key, nonce, sample, data, sample, message, end, sizeof mixed - mixed_length, &size);
     mixed_length += size;
 }
 
-/* Each number of a line. */
+/* Each number of a line; 22 with a right tag and with another. */
 static void mix(void)
 {
     mixed_length = 0;
-    add_sealed(1, 20), add_digits(0, ""), add_digits(707, "00"), add_sealed(2, 19), add_digits(5, "");
-    add_digits(64, "00"), add_digits(66, "41"), add_digits(66, "01"), add_digits(706, "00"), add_digits(66, "00");
-    add_digits(66, "0g"), add_sealed(64, 256);
+    add_sealed(1, 20), add_digits(0, ""), add_digits(707, "0000"), add_sealed(2, 19), add_digits(5, "");
+    add_digits(64, "0000"), add_digits(66, "0041"), add_digits(66, "0001"), add_digits(706, "0000");
+    add_digits(66, "0000"), add_digits(66, "0100"), add_digits(66, "000g"), add_sealed(64, 256);
+    mixed_length += by_hand(zero, 3, 2, mixed + mixed_length);
     mixed[mixed_length++] = '0';
 }
 
@@ -338,7 +490,7 @@ static void slots_said(void)
     static const size_t beyond[2][SLOT] = {
         { VOTRIKANY_PLACE_BEYOND, 8, 0, 0, 8 }, { VOTRIKANY_PLACE_BEYOND, 8, 0, 0, 8 }
     };
-    static const uint8_t numbers[] = { 0, 16, 4, 0, 6, 7, 8, 9, 10, 1, 5, 0, 11 };
+    static const uint8_t numbers[] = { 0, 16, 4, 0, 6, 7, 8, 9, 10, 22, 1, 5, 0, 22, 11 };
     static struct lent lent;
     const uint8_t *text = (const uint8_t *)"0g\n\nabc";
     paint(&lent);
@@ -350,8 +502,11 @@ static void slots_said(void)
     expect(memcmp(lent.words, beyond, sizeof beyond) == 0 && lent.next == 8, "both say so, and the place is kept");
     mix();
     expect(read_lines(mixed, mixed_length, 0, &lent, WORDS, AREA) == VOTRIKANY_DONE, "a slot for each number");
-    for (size_t i = 0; i < sizeof numbers; i++)
+    for (size_t i = 0; i < sizeof numbers; i++) {
+        const uint8_t *frame = lent.area + EDGE + i * FRAME;
         expect(lent.words[i * SLOT] == numbers[i], "the number of a line among others");
+        expect(numbers[i] == VOTRIKANY_DONE || all(frame, FRAME, 0xaa), "the frame of a refused line is 0xaa");
+    }
 }
 
 static void slots_as_a_struct(void)
@@ -563,10 +718,16 @@ int main(void)
     cipher();
     writer();
     reader();
+    zero_nonce_written();
+    zero_nonce_read();
+    nonces_taken();
+    zero_nonce_ciphered();
     roll_marks();
     bad_digits();
     every_bad_byte();
     opened();
+    if (failed) /* what follows is made of written lines */
+        return failed;
     many_equal_one_by_one();
     slots_said();
     slots_as_a_struct();

@@ -8,8 +8,8 @@
 
 enum { ROOM = 65536, LONG = 5000, SLOTS = 8 };
 
-static const uint8_t key[16] = { 1, 2, 3 }, nonce[16] = { 4, 5, 6 };
-static uint8_t data[LONG], text[LONG], out[LONG], tag[16], line[800], frame[400], stack[ROOM];
+static const uint8_t key[16] = { 1, 2, 3 };
+static uint8_t nonce[16] = { 4, 5, 6 }, data[LONG], text[LONG], out[LONG], tag[16], line[800], frame[400], stack[ROOM];
 static uint8_t frames[SLOTS * VOTRIKANY_FRAME_SIZE];
 static struct votrikany_slot slots[SLOTS];
 static size_t data_length, text_length, out_length, line_length, frames_length, place, next, n, m, at;
@@ -143,11 +143,11 @@ static void cipher_refused(void)
     measure(open_in_place, VOTRIKANY_TOO_LONG, "open_in_place, 2^61 bytes");
 }
 
-/* A line of `digits` zeros, with one byte of it as given. */
-static void line_refused(size_t digits, size_t at, char byte, uint8_t wanted, const char *what)
+/* A line of `digits` zeros, with some bytes of it as given. */
+static void line_refused(size_t digits, size_t at, const char *bytes, uint8_t wanted, const char *what)
 {
     memset(line, '0', sizeof line);
-    line[at] = (uint8_t)byte;
+    memcpy(line + at, bytes, strlen(bytes));
     line[digits] = '\n';
     line_length = digits + 1;
     measure_reading(wanted, what);
@@ -155,15 +155,16 @@ static void line_refused(size_t digits, size_t at, char byte, uint8_t wanted, co
 
 static void journal_refused(void)
 {
-    line_refused(0, 0, '\n', VOTRIKANY_ROLL_MARK, "an empty line");
-    line_refused(707, 0, '0', VOTRIKANY_LINE_TOO_LONG, "707 digits");
-    line_refused(706, 705, 'g', VOTRIKANY_NOT_DIGIT, "a last digit that is none");
-    line_refused(705, 0, '0', VOTRIKANY_ODD, "705 digits");
-    line_refused(64, 0, '0', VOTRIKANY_FRAME_TOO_SHORT, "32 frame bytes");
-    line_refused(66, 32, '5', VOTRIKANY_DATA_TOO_LONG, "n = 80");
-    line_refused(66, 33, '1', VOTRIKANY_DATA_PAST_FRAME, "n = 1 in 33 frame bytes");
-    line_refused(706, 0, '0', VOTRIKANY_MESSAGE_TOO_LONG, "m = 320");
-    line_refused(706, 32, '4', VOTRIKANY_TAG_DIFFERS, "n = 64, m = 256, and a tag of zeros");
+    line_refused(0, 0, "", VOTRIKANY_ROLL_MARK, "an empty line");
+    line_refused(707, 0, "", VOTRIKANY_LINE_TOO_LONG, "707 digits");
+    line_refused(706, 705, "g", VOTRIKANY_NOT_DIGIT, "a last digit that is none");
+    line_refused(705, 0, "", VOTRIKANY_ODD, "705 digits");
+    line_refused(64, 0, "", VOTRIKANY_FRAME_TOO_SHORT, "32 frame bytes");
+    line_refused(66, 32, "5", VOTRIKANY_DATA_TOO_LONG, "n = 80");
+    line_refused(66, 33, "1", VOTRIKANY_DATA_PAST_FRAME, "n = 1 in 33 frame bytes");
+    line_refused(706, 0, "", VOTRIKANY_MESSAGE_TOO_LONG, "m = 320");
+    line_refused(706, 32, "4", VOTRIKANY_ZERO_NONCE, "n = 64, m = 256, and a nonce of zeros");
+    line_refused(706, 31, "14", VOTRIKANY_TAG_DIFFERS, "n = 64, m = 256, and a tag of zeros");
     place = line_length;
     measure_reading(VOTRIKANY_END, "the end");
     place = line_length + 1;
@@ -175,6 +176,9 @@ static void journal_refused(void)
     measure(read_lines, VOTRIKANY_AREA_DIFFERS, "an area of a byte less");
     data_length = 65;
     measure(write_line, VOTRIKANY_DATA_TOO_LONG, "65 bytes of data");
+    data_length = text_length = 64;
+    memset(nonce, 0, sizeof nonce);
+    measure(write_line, VOTRIKANY_ZERO_NONCE, "writing under a nonce of zeros");
 }
 
 /* A reading of resident 3 and active 2, which is then bent. */

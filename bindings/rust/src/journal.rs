@@ -24,6 +24,11 @@ pub const END: u8 = 14;
 /// Reading's number for an empty line, as a log roller writes one at each roll: no reading, and no damage.
 pub const ROLL_MARK: u8 = 16;
 
+/// Writing's and reading's number for a nonce of sixteen zero bytes, as where nobody set it. Writing looks for it after
+/// 10 and before 15, reading after 10 and before 1, so a right tag does not help. [`Morus`](crate::Morus) takes that
+/// nonce as any other.
+pub const ZERO_NONCE: u8 = 22;
+
 /// Decoding's numbers, in the order of its tests: not 20 bytes, resident or active above 2^53, active above resident,
 /// resident zero.
 pub const NOT_TWENTY: u8 = 17;
@@ -108,7 +113,8 @@ impl Reading {
     }
 }
 
-/// Writes the line of data and a message at the front of `line`, and keeps the bytes behind it. A refusal leaves all as it was.
+/// Writes the line of data and a message at the front of `line`, and keeps the bytes behind it. A refusal (8, 10,
+/// [`ZERO_NONCE`] or 15, in this order) leaves all as it was.
 pub fn write_line(key: &Key, nonce: &Nonce, data: &[u8], message: &[u8], line: &mut [u8]) -> Line {
     let mut length = 0;
     let number = library::write_line(key, nonce, data, message, line, &mut length);
@@ -116,6 +122,7 @@ pub fn write_line(key: &Key, nonce: &Nonce, data: &[u8], message: &[u8], line: &
 }
 
 /// Reads the line that starts at `place` and opens its frame into `frame`; whatever is not an opened frame there is 0xaa.
+/// A line under a nonce of sixteen zero bytes is not opened, whatever its tag is ([`ZERO_NONCE`]).
 pub fn read_line(journal: &[u8], place: usize, key: &Key, frame: &mut [u8]) -> Answer {
     let (mut next, mut n, mut m, mut at) = (0, 0, 0, 0);
     let number = library::read_line(

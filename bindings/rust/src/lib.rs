@@ -38,7 +38,8 @@ pub type Tag = [u8; 16];
 /// A secret of sixteen bytes.
 pub type Key = [u8; 16];
 
-/// Sixteen bytes that are used once with a key.
+/// Sixteen bytes that are used once with a key. [`Morus`] takes any, sixteen zero bytes too, as morus 0.1.5 does; the
+/// journal refuses those ([`journal::ZERO_NONCE`]).
 pub type Nonce = [u8; 16];
 
 /// A key and a nonce, used up by one call.
