@@ -35,7 +35,8 @@ module _ (key ad message : List ℕ) (ad64 : length ad ≤ 64) (message256 : len
         refused = λ j place {frame} l big r.
             let line = rw (S .ciphertext, S .tag) at l in
             let all = all-zero 16 in
-            let x = line-refused key zeros ad message all ad64 message256 refl ab mb j place (length frame) big line in (
+            let size = length frame in
+            let x = line-refused key zeros ad message all ad64 message256 refl ab mb j place size big line in (
               r .answer ∙ ap answerOf x ∙ rw (line, line-size key zeros ad message refl),
               r .buffer ∙ ap (λ (y : Reading). y .verdict .buffer) x,
             );
