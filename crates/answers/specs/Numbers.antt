@@ -77,6 +77,14 @@ areaDiffers = 21
 abbrev pub zeroNonce : ℕ
 zeroNonce = 22
 
+-- data after a message part
+abbrev pub dataLate : ℕ
+dataLate = 23
+
+-- a call after the tag
+abbrev pub recordClosed : ℕ
+recordClosed = 24
+
 -- each is below: the listing counts on two digits
 abbrev pub numbersBelow : ℕ
 numbersBelow = 100

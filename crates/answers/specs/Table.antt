@@ -10,10 +10,11 @@ abbrev pub inOrder : List ℕ
 inOrder =
     n.done ∷ n.tagDiffers ∷ n.tooLong ∷ n.otherLength ∷ n.lineTooLong ∷ n.notDigit ∷ n.odd ∷ n.frameTooShort
     ∷ n.dataTooLong ∷ n.dataPastFrame ∷ n.messageTooLong ∷ n.noNewline ∷ n.placeBeyond ∷ n.bufferTooSmall ∷ n.end
-    ∷ n.lineTooSmall ∷ n.rollMark ∷ n.areaDiffers ∷ n.zeroNonce ∷ []
+    ∷ n.lineTooSmall ∷ n.rollMark ∷ n.areaDiffers ∷ n.zeroNonce ∷ n.dataLate ∷ n.recordClosed ∷ []
 
 pub record Table : Type 0 where
-  pub numbers : inOrder ≡ 0 ∷ 1 ∷ 2 ∷ 3 ∷ 4 ∷ 5 ∷ 6 ∷ 7 ∷ 8 ∷ 9 ∷ 10 ∷ 11 ∷ 12 ∷ 13 ∷ 14 ∷ 15 ∷ 16 ∷ 21 ∷ 22 ∷ []
+  pub numbers : inOrder
+      ≡ 0 ∷ 1 ∷ 2 ∷ 3 ∷ 4 ∷ 5 ∷ 6 ∷ 7 ∷ 8 ∷ 9 ∷ 10 ∷ 11 ∷ 12 ∷ 13 ∷ 14 ∷ 15 ∷ 16 ∷ 21 ∷ 22 ∷ 23 ∷ 24 ∷ []
   -- nonce (16), n (1), data (n), ciphertext (m), tag (16), with n up to 64 and m up to 256; two digits a byte
   pub nonce-tag : (s.nonceSize ≡ 16) × (s.tagSize ≡ 16)
   pub data-behind : s.dataAt ≡ 16 + 1

@@ -101,19 +101,23 @@ gone {f} {s₀} {s} {m₀} {m} {i} v h =
     )
 
 -- The same where m is only read.
-pub record Taking (s₀ : State) (m : List ℕ) (s : State) (i : ℕ) : Type 0 where
+pub record Taking (f : State → List ℕ → State) (s₀ : State) (m : List ℕ) (s : State) (i : ℕ) : Type 0 where
   pub within : i ≤ length m
-  pub state : stateBy sealing s (drop i m) ≡ stateBy sealing s₀ m
+  pub state : stateBy f s (drop i m) ≡ stateBy f s₀ m
 
-take-on : {s₀ s s' : State} {m : List ℕ} {i n : ℕ} → Taking s₀ m s i
-    → i < length m → n ≡ min (length m - i) 32 → s' ≡ sealing s (drop i m) → Taking s₀ m s' (i + n)
-take-on {s₀} {s} {s'} {m} {i} {n} v h en es =
-    record { within = omega arith; state = rw (left m i n h en, es, ← state-step sealing s (drop i m) (some m i n h en)) (v .state) }
+pub take-on : {f : State → List ℕ → State} {s₀ s s' : State} {m : List ℕ} {i n : ℕ} → Taking f s₀ m s i
+    → i < length m → n ≡ min (length m - i) 32 → s' ≡ f s (drop i m) → Taking f s₀ m s' (i + n)
+take-on {f} {s₀} {s} {s'} {m} {i} {n} v h en es =
+    record {
+      within = omega arith;
+      state = rw (left m i n h en, es, ← state-step f s (drop i m) (some m i n h en)) (v .state);
+    }
 
-pub taken : {s₀ s : State} {m : List ℕ} {i : ℕ} → Taking s₀ m s i → length m ≤ i → s ≡ stateBy sealing s₀ m
-taken {s₀} {s} {m} {i} v h =
+pub taken : {f : State → List ℕ → State} {s₀ s : State} {m : List ℕ} {i : ℕ} → Taking f s₀ m s i → length m ≤ i
+    → s ≡ stateBy f s₀ m
+taken {f} {s₀} {s} {m} {i} v h =
     let z : length (drop i m) ≡ 0 = rw length-drop (omega arith) in
-    rw (state-none sealing s (drop i m) z) at (v .state)
+    rw (state-none f s (drop i m) z) at (v .state)
 
 -- What the code does to the first block of b, or to all that is left.
 module _ (s : State) (b : List ℕ) {p : List ℕ} (ep : p ≡ padded 32 b) where
@@ -127,12 +131,12 @@ module _ (s : State) (b : List ℕ) {p : List ℕ} (ep : p ≡ padded 32 b) wher
   sealed-bytes n e ed = rw (ed, ep) (part-out b n (omega arith) s)
 
   -- a whole block opened: what is xored of its block is what is xored of b
-  whole-out : 32 ≤ length b → xorBytes p (stream s) ≡ xorBytes b (stream s)
+  pub whole-out : 32 ≤ length b → xorBytes p (stream s) ≡ xorBytes b (stream s)
   whole-out h =
       let a : take 32 (xorBytes p (stream s)) ≡ xorBytes p (stream s) = take-all 32 _ (rw (length-xor, length-stream) (omega arith)) in
       sym a ∙ sealed-bytes 32 (omega arith) refl
 
-  opened-state : {s' : State} → 32 ≤ length b → s' ≡ opening s p → s' ≡ opening s b
+  pub opened-state : {s' : State} → 32 ≤ length b → s' ≡ opening s p → s' ≡ opening s b
   unfolding opening
   opened-state h es = rw (es, whole-out h)
 
@@ -149,8 +153,8 @@ part-bytes s b {d} h ed =
     rw (ed, ← l) (padded-front 32 (xorBytes b (stream s)) (omega arith))
 
 -- The turns of the loops, from what the calls ensure.
-pub absorb-on : {s₀ s s' : State} {m p : List ℕ} {i n : ℕ} → Taking s₀ m s i → i < length m → n ≡ min (length m - i) 32
-    → p ≡ padded 32 (drop i m) → s' ≡ sealing s p → Taking s₀ m s' (i + n)
+pub absorb-on : {s₀ s s' : State} {m p : List ℕ} {i n : ℕ} → Taking sealing s₀ m s i → i < length m
+    → n ≡ min (length m - i) 32 → p ≡ padded 32 (drop i m) → s' ≡ sealing s p → Taking sealing s₀ m s' (i + n)
 absorb-on {s₀} {s} {s'} {m} {p} {i} {n} v h en ep es = take-on v h en (sealed-state s (drop i m) ep es)
 
 pub cover-on : {s₀ s s' : State} {m₀ m p d m' : List ℕ} {i n : ℕ} → Going sealing s₀ m₀ s m i → i < length m → n ≡ min (length m - i) 32

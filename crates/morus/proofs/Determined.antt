@@ -1,10 +1,15 @@
 -- Any two outcomes that a promise allows coincide: the result and the lent buffer at exit.
 use mathlib.Core.Path.{_≡_, ap₂, sym, _∙_}
+use mathlib.Core.Bool.{Bool}
 use mathlib.Core.List.{List}
 use Prim.Native.Nat.{ℕ}
+use Rattle.state.specs.declared.State.{State}
 use Rattle.morus.specs.declared.Morus.{Morus}
 use Rattle.morus.specs.declared.Sealed.{Sealed}
-use Rattle.morus.specs.Morus.{begun, Sealing, Opening, Encrypted, Decrypted, EncryptedInto, DecryptedInto}
+use Rattle.morus.specs.Blocks.{absorbed}
+use Rattle.morus.specs.Seal.{same}
+use Rattle.morus.specs.Morus.{begun, tagBehind, Sealing, Opening}
+use Rattle.morus.specs.Morus.{Encrypted, Decrypted, EncryptedInto, DecryptedInto}
 
 one-sealing : {k : ℕ} {w : Morus} {d m out : List ℕ} {r₁ r₂ : Sealed} {o₁ o₂ : List ℕ}
     → Sealing k w d m out r₁ o₁ → Sealing k w d m out r₂ o₂ → (r₁ ≡ r₂) × (o₁ ≡ o₂)
@@ -19,6 +24,15 @@ one-opening p q = (p .number ∙ sym (q .number), p .buffer ∙ sym (q .buffer))
 
 pub new : (nonce key : List ℕ) {r₁ r₂ : Morus} → r₁ ≡ begun nonce key → r₂ ≡ begun nonce key → r₁ ≡ r₂
 new nonce key p q = p ∙ sym q
+
+pub absorb : (s : State) (d : List ℕ) {r₁ r₂ : State} → r₁ ≡ absorbed s d → r₂ ≡ absorbed s d → r₁ ≡ r₂
+absorb s d p q = p ∙ sym q
+
+pub same-tag : (a b : List ℕ) {r₁ r₂ : Bool} → r₁ ≡ same a b → r₂ ≡ same a b → r₁ ≡ r₂
+same-tag a b p q = p ∙ sym q
+
+pub tag-behind : (s : State) (d m : ℕ) {r₁ r₂ : List ℕ} → r₁ ≡ tagBehind s d m → r₂ ≡ tagBehind s d m → r₁ ≡ r₂
+tag-behind s d m p q = p ∙ sym q
 
 module _ (w : Morus) (d : List ℕ) where
   pub encrypt-in-place : (m : List ℕ) {r₁ r₂ : Sealed} {o₁ o₂ : List ℕ}

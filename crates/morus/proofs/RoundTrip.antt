@@ -24,7 +24,7 @@ drop-front (suc n) [] [] k h = refl
 drop-front (suc n) [] (a ∷ r) k h = absurd (omega (arith, h (omega arith)))
 drop-front (suc n) (a ∷ x) r k h = drop-front n x r (omega arith) (λ j. h (omega arith))
 
-lane-take : (m : List ℕ) → laneOf (take 32 m) ≡ laneOf m
+pub lane-take : (m : List ℕ) → laneOf (take 32 m) ≡ laneOf m
 lane-take m = sym (lane-padded (take 32 m)) ∙ ap laneOf (padded-first 32 m) ∙ lane-padded m
 
 take-front : (n : ℕ) (x r : List ℕ) → length x ≤ n → (length x < n → length r ≡ 0) → take n (x ++ r) ≡ x

@@ -9,8 +9,10 @@ use Rattle.answers.specs.Sizes.{limit, fill, tagSize}
 use Rattle.answers.specs.Rows.{Row, _else_, firstFailing}
 use Rattle.morus.specs.declared.Morus.{Morus}
 use Rattle.morus.specs.declared.Sealed.{Sealed}
+use Rattle.state.specs.declared.State.{State}
 use Rattle.state.specs.Start.{start}
-use Rattle.morus.specs.Seal.{sealFrom, sealTagFrom, unsealFrom, acceptsFrom}
+use Rattle.state.specs.Tag.{tag}
+use Rattle.morus.specs.Seal.{lengths, sealFrom, sealTagFrom, unsealFrom, acceptsFrom}
 
 -- what a nonce and a key begin
 unfoldable pub begun : (nonce key : List ℕ) → Morus
@@ -19,6 +21,14 @@ begun nonce key = record { 0 = start key nonce }
 -- 2, of the lengths of data and message
 unfoldable pub lengthRows : (d m : ℕ) → List Row
 lengthRows d m = (ltb d limit else tooLong) ∷ (ltb m limit else tooLong) ∷ []
+
+-- the tag of a state behind d bytes of data and m of message, with the answer k: sixteen zeros where that is not done
+unfoldable pub tagOf : ℕ → State → (d m : ℕ) → List ℕ
+tagOf zero s d m = tag s (lengths d m)
+tagOf (suc k) s d m = replicate tagSize 0
+
+unfoldable pub tagBehind : State → (d m : ℕ) → List ℕ
+tagBehind s d m = tagOf (firstFailing (lengthRows d m)) s d m
 
 -- 2, 3, with the length of the second buffer
 unfoldable pub intoRows : (d m o : ℕ) → List Row

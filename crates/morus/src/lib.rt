@@ -1,5 +1,5 @@
 // MORUS-1280-128, after the Rust crate morus 0.1.5: the entry points. The answers are numbers of the table.
-mod message;
+pub mod message;
 
 use crate::message::absorb;
 use crate::message::cover;
@@ -13,7 +13,8 @@ use state::State;
 ghost use mathlib.Core.Path.{_≡_};
 ghost use Rattle.answers.specs.Rows.{firstFailing};
 ghost use Rattle.morus.specs.Seal.{same};
-ghost use Rattle.morus.specs.Morus.{begun, lengthRows, intoRows, Encrypted, Decrypted, EncryptedInto, DecryptedInto};
+ghost use Rattle.morus.specs.Morus.{begun, lengthRows, intoRows, tagBehind};
+ghost use Rattle.morus.specs.Morus.{Encrypted, Decrypted, EncryptedInto, DecryptedInto};
 
 pub type Key = [u8; 16];
 
@@ -56,7 +57,7 @@ fn into_number(adlen: usize, mlen: usize, outlen: usize) -> u8
 }
 
 // All sixteen bytes are compared, whatever the first ones say.
-fn same_tag(a: Tag, b: Tag) -> bool
+pub fn same_tag(a: Tag, b: Tag) -> bool
     ensures { λ r. ⌜ r ≡ same a b ⌝ }
 {
     let mut acc: u8 = 0;
@@ -66,6 +67,16 @@ fn same_tag(a: Tag, b: Tag) -> bool
         i += 1;
     }
     acc == 0
+}
+
+// The tag of a state behind `adlen` bytes of data and `mlen` of message; sixteen zeros where a length is refused.
+pub fn tag_behind(s: State, adlen: usize, mlen: usize) -> Tag
+    ensures { λ r. ⌜ r ≡ tagBehind s adlen mlen ⌝ }
+{
+    if short_number(adlen, mlen) != numbers::DONE {
+        return [0u8; 16];
+    }
+    tag_of(s, adlen, mlen)
 }
 
 impl Morus {

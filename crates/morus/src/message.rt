@@ -13,7 +13,7 @@ ghost use Rattle.morus.specs.Blocks.{covered, absorbed, uncovered, reabs
 ghost use Rattle.morus.specs.Seal.{lengths};
 
 // Takes data into the state, by the update alone: nobody reads what `enc` would write.
-pub(crate) fn absorb(s: State, ad: &[u8]) -> State
+pub fn absorb(s: State, ad: &[u8]) -> State
     ensures { λ r. ⌜ r ≡ absorbed s (now (ad .entry)) ⌝ }
 {
     let mut st = s;

@@ -6,6 +6,7 @@ ghost use Prim.Native.Nat.{_<_};
 ghost use lib.Bits.{bitAnd, bitXor};
 ghost use Rattle.state.specs.Lane.{turn, word, lane4, laneOf, laneBytes, _⊕_, _&_, turned, moved};
 
+#[repr(C)]
 pub struct Lane {
     pub(crate) l: [u64; 4],
 }

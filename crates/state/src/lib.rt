@@ -15,6 +15,7 @@ ghost use Rattle.state.specs.Start.{startWith, start};
 ghost use Rattle.state.specs.Block.{keyStream, stream, sealing, opening};
 ghost use Rattle.state.specs.Tag.{ended, tag};
 
+#[repr(C)]
 pub struct State {
     s: [Lane; 5],
 }

@@ -10,7 +10,7 @@ use Rattle.morus.proofs.message.absorb.Statement.{statement}
 use Rattle.morus.proofs.message.absorb.Tie as tie
 
 abbrev Inv-loop : tie.InvT-loop
-Inv-loop ad st₀ i₀ st i = Taking st₀ ad st i
+Inv-loop ad st₀ i₀ st i = Taking sealing st₀ ad st i
 
 abbrev μ-loop : tie.MeasureT-loop
 μ-loop ad st₀ i₀ st i = length ad - i
