@@ -3,7 +3,7 @@
 -- Bad input gets the number of the table. After any refused opening every byte of the output buffer is 0xaa; after a
 -- refused sealing it is untouched and the tag is zero. Each number with literals, every earlier test negated, and the
 -- place that the reader says with it, is in Answers of the crates morus, run, journal and reading, and of many lines in
--- one call in ManyLines of journal.
+-- one call in ManyLines of journal. Of sealing and checking in parts it is said in Parts, beside this file.
 use Prim.Native.Nat.{ℕ}
 use mathlib.Core.List.{List}
 use Rattle.morus.specs.declared.Sealed.{Sealed}

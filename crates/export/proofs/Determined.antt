@@ -7,9 +7,13 @@ use lib.Ieee.{Float}
 use Rattle.journal.specs.declared.Line.{Line}
 use Rattle.journal.specs.declared.Answer.{Answer}
 use Rattle.journal.specs.declared.Many.{Many}
+use Rattle.parts.specs.declared.sealer.Sealer.{Sealer}
+use Rattle.parts.specs.declared.checker.Checker.{Checker}
+use Rattle.parts.specs.Parts.{DataTaken, PartSealed, TagGiven, PartChecked, TagJudged}
+use Rattle.parts.proofs.Determined as Parts
 use Rattle.reading.specs.Reading.{Value}
 use Rattle.export.specs.Promise.{SealedInPlace, OpenedInPlace, SealedInto, OpenedInto}
-use Rattle.export.specs.Promise.{Wrote, Read, ReadMany, Decodes, Newer}
+use Rattle.export.specs.Promise.{SealerBegun, CheckerBegun, Wrote, Read, ReadMany, Decodes, Newer}
 
 module _ (key nonce ad : List ℕ) where
   pub votrikany-seal-in-place : (text : List ℕ) {r₁ r₂ : ℕ} {x₁ x₂ t₁ t₂ : List ℕ}
@@ -68,3 +72,39 @@ votrikany-decode message p q =
 
 pub votrikany-newer : (a b : ℕ) {r₁ r₂ : Bool} → Newer a b r₁ → Newer a b r₂ → r₁ ≡ r₂
 votrikany-newer a b p q = p ∙ sym q
+
+-- a record in parts that is begun, and a call on one: the number, the record after it, what is behind the lent buffer
+pub votrikany-sealer-begin : (key nonce : List ℕ) {s₁ s₂ : Sealer} → SealerBegun key nonce s₁ → SealerBegun key nonce s₂
+    → s₁ ≡ s₂
+votrikany-sealer-begin key nonce = Parts.sealer-new nonce key
+
+pub votrikany-checker-begin : (key nonce : List ℕ) {c₁ c₂ : Checker} → CheckerBegun key nonce c₁
+    → CheckerBegun key nonce c₂ → c₁ ≡ c₂
+votrikany-checker-begin key nonce = Parts.checker-new nonce key
+
+module _ (s : Sealer) {r₁ r₂ : ℕ} {s₁ s₂ : Sealer} where
+  pub votrikany-sealer-data : (part : List ℕ) → DataTaken (s .0) part r₁ (s₁ .0) → DataTaken (s .0) part r₂ (s₂ .0)
+      → (r₁ ≡ r₂) × (s₁ ≡ s₂)
+  votrikany-sealer-data part p q = Parts.sealer-add-data s part p q
+
+  pub votrikany-sealer-message : (part : List ℕ) {x₁ x₂ : List ℕ}
+      → PartSealed (s .0) part r₁ (s₁ .0) x₁ → PartSealed (s .0) part r₂ (s₂ .0) x₂
+      → (r₁ ≡ r₂) × (s₁ ≡ s₂) × (x₁ ≡ x₂)
+  votrikany-sealer-message part p q = Parts.seal-part s part p q
+
+  pub votrikany-sealer-tag : {t₁ t₂ : List ℕ} → TagGiven (s .0) r₁ (s₁ .0) t₁ → TagGiven (s .0) r₂ (s₂ .0) t₂
+      → (r₁ ≡ r₂) × (s₁ ≡ s₂) × (t₁ ≡ t₂)
+  votrikany-sealer-tag p q = Parts.give-tag s p q
+
+module _ (c : Checker) {r₁ r₂ : ℕ} {c₁ c₂ : Checker} where
+  pub votrikany-checker-data : (part : List ℕ) → DataTaken (c .0) part r₁ (c₁ .0) → DataTaken (c .0) part r₂ (c₂ .0)
+      → (r₁ ≡ r₂) × (c₁ ≡ c₂)
+  votrikany-checker-data part p q = Parts.checker-add-data c part p q
+
+  pub votrikany-checker-ciphertext : (part : List ℕ)
+      → PartChecked (c .0) part r₁ (c₁ .0) → PartChecked (c .0) part r₂ (c₂ .0) → (r₁ ≡ r₂) × (c₁ ≡ c₂)
+  votrikany-checker-ciphertext part p q = Parts.check-part c part p q
+
+  pub votrikany-checker-tag : (tag : List ℕ) → TagJudged (c .0) tag r₁ (c₁ .0) → TagJudged (c .0) tag r₂ (c₂ .0)
+      → (r₁ ≡ r₂) × (c₁ ≡ c₂)
+  votrikany-checker-tag tag p q = Parts.check-tag c tag p q

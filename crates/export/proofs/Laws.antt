@@ -11,6 +11,8 @@ use Rattle.morus.specs.Seal.{seal, sealTag, unseal}
 use Rattle.morus.specs.Answers.{Short, SealAnswer, OpenAnswer}
 use Rattle.morus.proofs.Answers as cipher
 use Rattle.morus.proofs.Laws.{seal-length, back}
+use Rattle.parts.specs.Cuts.{SealRun, CheckRun}
+use Rattle.parts.proofs.Cuts.{sealed-so, checked-so}
 use Rattle.run.specs.Turns.{inTurn, placeAfter}
 use Rattle.journal.specs.declared.Answer.{Answer}
 use Rattle.journal.specs.declared.Many.{Many}
@@ -78,6 +80,35 @@ functions =
       open-in-place = λ key nonce ad text tag o. cipher.decrypt-in-place _ _ ad text tag o .answer;
       seal-into = λ key nonce ad message out s. cipher.encrypt _ _ ad message out s .answer;
       open-into = λ key nonce ad text tag out o. cipher.decrypt _ _ ad text tag out o .answer;
+      seal-in-parts = λ key nonce ds ms hd hm b d m t.
+          let run : SealRun key nonce ds ms = record {
+            after-data = _;
+            after-message = _;
+            after-tag = _;
+            data-numbers = _;
+            text-numbers = _;
+            tag-number = _;
+            sealed = _;
+            tag = _;
+            data-calls = rw b at d;
+            seal-calls = m;
+            tag-call = t;
+          } in
+          let v = sealed-so key nonce ds hd ms hm run in
+          record { done = v .tag-done; bytes = v .bytes; own-tag = v .own-tag };
+      check-in-parts = λ key nonce ds cs tag hd hc b d c t.
+          let run : CheckRun key nonce ds cs tag = record {
+            after-data = _;
+            after-message = _;
+            after-tag = _;
+            data-numbers = _;
+            text-numbers = _;
+            number = _;
+            data-calls = rw b at d;
+            check-calls = c;
+            tag-call = t;
+          } in
+          checked-so key nonce ds hd cs hc tag run .exactly;
       write-line = λ key nonce ad message line w. write-outcome w .answer;
       read-line = λ journal key frame place r. read-outcome r .answer;
       read-lines = λ journal key slots frames place r. many-answered r;

@@ -1,17 +1,22 @@
 -- What the functions give, apart from the definitions that their promises are written with: the answers of the cipher
 -- and of the journal, which speak with literals of `seal key nonce` and `sealTag key nonce`, and those of a reading and
 -- of two ticks. The key comes before the nonce, as in the header.
-use Prim.Native.Nat.{ℕ, _+_, _-_, _≤_, _<_}
+use Prim.Native.Nat.{ℕ, _+_, _-_, _≤_, _<_, _^_}
 use mathlib.Core.Path.{_≡_}
-use mathlib.Core.Bool.{Bool, false}
-use mathlib.Core.List.{List, [], _∷_, _++_}
+use mathlib.Core.Logic.{_↔_}
+use mathlib.Core.Bool.{Bool, true, false}
+use mathlib.Core.List.{List, [], _∷_, _++_, flatten}
 use lib.Dec.{T}
 use lib.IntN.{pos}
 use lib.Ieee.{Float, fin, binary64, toBits, lt}
 use lib.ListN.{length, take, replicate}
 use Rattle.buffers.specs.Bytes.{Bytes}
-use Rattle.morus.specs.Seal.{sealTag}
+use Rattle.morus.specs.Seal.{seal, sealTag, accepts}
 use Rattle.morus.specs.Answers.{SealAnswer, OpenAnswer}
+use Rattle.parts.specs.declared.sealer.Sealer.{Sealer}
+use Rattle.parts.specs.declared.checker.Checker.{Checker}
+use Rattle.parts.specs.Parts.{TagGiven, TagJudged}
+use Rattle.parts.specs.Cuts.{DataCalls, SealCalls, CheckCalls}
 use Rattle.run.specs.Read.{reading}
 use Rattle.journal.specs.Answers.{ReadAnswer, WriteAnswer}
 use Rattle.journal.specs.ManyLines.{ManyAnswer}
@@ -19,7 +24,7 @@ use Rattle.reading.specs.declared.Decoded.the-variants.{Ratio, Refused}
 use Rattle.reading.specs.Answers.{DecodeAnswer, NewerAnswer}
 use Rattle.reading.specs.Laws.{plain}
 use Rattle.export.specs.Promise.{SealedInPlace, OpenedInPlace, SealedInto, OpenedInto}
-use Rattle.export.specs.Promise.{Wrote, Read, ReadMany, Decodes, Newer}
+use Rattle.export.specs.Promise.{SealerBegun, CheckerBegun, Wrote, Read, ReadMany, Decodes, Newer}
 
 -- what was sealed is opened
 pub record Back (text : List ℕ) (number : ℕ) (out' : List ℕ) : Type 0 where
@@ -57,7 +62,13 @@ pub data ReadingAnswer (message : List ℕ) : (number : ℕ) (ratio' : Float) (t
       → toBits binary64 ratio' ≡ 0xaaaaaaaaaaaaaaaa → T (lt ratio' (fin false 0 (pos 0)))
       → ReadingAnswer message number ratio' 0xaaaaaaaa
 
--- whatever the promises of the nine functions allow
+-- data parts ds, message parts ms and the tag, by calls on a sealer that is begun: the bytes and the tag of one call
+pub record InParts (key nonce : List ℕ) (ds ms sealed : List (List ℕ)) (number : ℕ) (tag' : List ℕ) : Type 0 where
+  pub done : number ≡ 0
+  pub bytes : flatten sealed ≡ seal key nonce (flatten ds) (flatten ms)
+  pub own-tag : tag' ≡ sealTag key nonce (flatten ds) (flatten ms)
+
+-- whatever the promises of the functions allow; of the calls on a record that is begun the crate parts says more
 pub record Functions : Type 0 where
   pub seal-in-place : (key nonce ad text : List ℕ) {number : ℕ} {text' tag' : List ℕ}
       → SealedInPlace key nonce ad text number text' tag' → SealAnswer key nonce ad text text number tag' text'
@@ -67,6 +78,17 @@ pub record Functions : Type 0 where
       → SealedInto key nonce ad message out number out' tag' → SealAnswer key nonce ad message out number tag' out'
   pub open-into : (key nonce ad cipher tag out : List ℕ) {number : ℕ} {out' : List ℕ}
       → OpenedInto key nonce ad cipher tag out number out' → OpenAnswer key nonce ad cipher tag out number out'
+  -- in parts, from what the two that begin give
+  pub seal-in-parts : (key nonce : List ℕ) (ds ms : List (List ℕ)) {s₀ s₁ s₂ s₃ : Sealer} {ns ks : List ℕ}
+      {sealed : List (List ℕ)} {number : ℕ} {tag' : List ℕ}
+      → length (flatten ds) < 2 ^ 61 → length (flatten ms) < 2 ^ 61 → SealerBegun key nonce s₀
+      → DataCalls (s₀ .0) ds ns (s₁ .0) → SealCalls (s₁ .0) ms ks sealed (s₂ .0) → TagGiven (s₂ .0) number (s₃ .0) tag'
+      → InParts key nonce ds ms sealed number tag'
+  pub check-in-parts : (key nonce : List ℕ) (ds cs : List (List ℕ)) (tag : List ℕ) {c₀ c₁ c₂ c₃ : Checker}
+      {ns ks : List ℕ} {number : ℕ}
+      → length (flatten ds) < 2 ^ 61 → length (flatten cs) < 2 ^ 61 → CheckerBegun key nonce c₀
+      → DataCalls (c₀ .0) ds ns (c₁ .0) → CheckCalls (c₁ .0) cs ks (c₂ .0) → TagJudged (c₂ .0) tag number (c₃ .0)
+      → (number ≡ 0) ↔ (accepts key nonce (flatten ds) (flatten cs) tag ≡ true)
   pub write-line : (key nonce ad message line : List ℕ) {number size' : ℕ} {line' : List ℕ}
       → Wrote key nonce ad message line number line' size' → WriteAnswer key nonce ad message line number size' line'
   pub read-line : (journal key frame : List ℕ) (place : ℕ) {number next' n' m' at' : ℕ} {frame' : List ℕ}

@@ -6,6 +6,9 @@ use mathlib.Core.Bool.{Bool}
 use mathlib.Core.List.{List, [], _∷_}
 use lib.Ieee.{Float, binary64, ofBits}
 use Rattle.morus.specs.Morus.{begun, Encrypted, Decrypted, EncryptedInto, DecryptedInto}
+use Rattle.parts.specs.declared.sealer.Sealer.{Sealer}
+use Rattle.parts.specs.declared.checker.Checker.{Checker}
+use Rattle.parts.specs.Parts as Parts
 use Rattle.journal.specs.Promise.{LineWritten, LineRead}
 use Rattle.journal.specs.Slots.{LinesRead}
 use Rattle.reading.specs.Reading.{Value, answer, values}
@@ -26,6 +29,13 @@ OpenedInPlace key nonce ad text tag number text' = Decrypted (begun nonce key) a
 
 abbrev pub OpenedInto : (key nonce ad cipher tag out : List ℕ) → (number : ℕ) → (out' : List ℕ) → Type 0
 OpenedInto key nonce ad cipher tag out number out' = DecryptedInto (begun nonce key) ad cipher tag out number out'
+
+-- a sealer and a checker that are begun; what their calls promise is what the crate parts says, in its own words
+abbrev pub SealerBegun : (key nonce : List ℕ) → Sealer → Type 0
+SealerBegun key nonce sealer = sealer .0 ≡ Parts.begun nonce key
+
+abbrev pub CheckerBegun : (key nonce : List ℕ) → Checker → Type 0
+CheckerBegun key nonce checker = checker .0 ≡ Parts.begun nonce key
 
 -- a line written: the number is the result, its length stands behind its pointer
 abbrev pub Wrote : (key nonce ad message line : List ℕ) → (number : ℕ) → (line' : List ℕ) → (size' : ℕ) → Type 0

@@ -5,10 +5,13 @@ use journal::read_lines;
 use journal::write_line;
 use morus::Morus;
 use morus::Sealed;
+use parts::checker::Checker;
+use parts::sealer::Sealer;
 use reading::Decoded;
 ghost use mathlib.Core.Path.{_≡_};
 ghost use Rattle.export.specs.Promise.{SealedInPlace, OpenedInPlace, SealedInto, OpenedInto};
-ghost use Rattle.export.specs.Promise.{Wrote, Read, ReadMany, Decodes, Newer};
+ghost use Rattle.export.specs.Promise.{SealerBegun, CheckerBegun, Wrote, Read, ReadMany, Decodes, Newer};
+ghost use Rattle.parts.specs.Parts.{DataTaken, PartSealed, TagGiven, PartChecked, TagJudged};
 
 // A sealing's tag behind its pointer, and its number.
 fn stored(sealed: Sealed, tag: &mut [u8; 16]) -> u8
@@ -165,4 +168,79 @@ pub extern "C" fn votrikany_newer(a: u32, b: u32) -> bool
     ensures { λ r. ⌜ Newer a b r ⌝ }
 {
     reading::newer(a, b)
+}
+
+// Sealing in parts: `begin` gives the record, and each call works on it in place.
+#[no_mangle]
+pub extern "C" fn votrikany_sealer_begin(key: &[u8; 16], nonce: &[u8; 16]) -> Sealer
+    ensures { λ r. ⌜ SealerBegun (now (key .entry)) (now (nonce .entry)) r ⌝ }
+{
+    let k = *key;
+    let n = *nonce;
+    Sealer::new(n, k)
+}
+
+#[no_mangle]
+pub extern "C" fn votrikany_sealer_data(sealer: &mut Sealer, part: &[u8]) -> u8
+    ensures { λ r. ⌜ DataTaken (now (sealer .entry) .0) (now (part .entry)) r (now (sealer .exit) .0) ⌝ }
+{
+    let step = sealer.data(part);
+    *sealer = step.sealer;
+    step.number
+}
+
+#[no_mangle]
+pub extern "C" fn votrikany_sealer_message(sealer: &mut Sealer, part: &mut [u8]) -> u8
+    ensures { λ r. ⌜ PartSealed (now (sealer .entry) .0) (now (part .entry)) r (now (sealer .exit) .0)
+        (now (part .exit)) ⌝ }
+{
+    let step = sealer.message(part);
+    *sealer = step.sealer;
+    step.number
+}
+
+#[no_mangle]
+pub extern "C" fn votrikany_sealer_tag(sealer: &mut Sealer, tag: &mut [u8; 16]) -> u8
+    ensures { λ r. ⌜ TagGiven (now (sealer .entry) .0) r (now (sealer .exit) .0) (now (tag .exit)) ⌝ }
+{
+    let step = sealer.tag(tag);
+    *sealer = step.sealer;
+    step.number
+}
+
+// Checking in parts, likewise.
+#[no_mangle]
+pub extern "C" fn votrikany_checker_begin(key: &[u8; 16], nonce: &[u8; 16]) -> Checker
+    ensures { λ r. ⌜ CheckerBegun (now (key .entry)) (now (nonce .entry)) r ⌝ }
+{
+    let k = *key;
+    let n = *nonce;
+    Checker::new(n, k)
+}
+
+#[no_mangle]
+pub extern "C" fn votrikany_checker_data(checker: &mut Checker, part: &[u8]) -> u8
+    ensures { λ r. ⌜ DataTaken (now (checker .entry) .0) (now (part .entry)) r (now (checker .exit) .0) ⌝ }
+{
+    let step = checker.data(part);
+    *checker = step.checker;
+    step.number
+}
+
+#[no_mangle]
+pub extern "C" fn votrikany_checker_ciphertext(checker: &mut Checker, part: &[u8]) -> u8
+    ensures { λ r. ⌜ PartChecked (now (checker .entry) .0) (now (part .entry)) r (now (checker .exit) .0) ⌝ }
+{
+    let step = checker.ciphertext(part);
+    *checker = step.checker;
+    step.number
+}
+
+#[no_mangle]
+pub extern "C" fn votrikany_checker_tag(checker: &mut Checker, tag: &[u8; 16]) -> u8
+    ensures { λ r. ⌜ TagJudged (now (checker .entry) .0) (now (tag .entry)) r (now (checker .exit) .0) ⌝ }
+{
+    let step = checker.tag(tag);
+    *checker = step.checker;
+    step.number
 }

@@ -1,0 +1,4 @@
+pub mod ByValue
+pub mod Determined
+pub mod Forms
+pub mod Records

@@ -1,0 +1,13 @@
+pub mod Bytewise
+pub mod Portions
+pub mod Span
+pub mod Going
+pub mod Calls
+pub mod Rooms
+pub mod Lent
+pub mod Stepping
+pub mod InPlace
+pub mod Records
+pub mod Determined
+pub mod Answers
+pub mod Cuts

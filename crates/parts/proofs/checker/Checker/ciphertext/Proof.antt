@@ -1,0 +1,44 @@
+-- Refused, what was there; else the calls' equations, whose premise is what the rows say.
+use mathlib.Core.Path.{_≡_, sym, _∙_}
+use lib.ListN.{length}
+use Rattle.answers.specs.Rows.{firstFailing}
+use Rattle.parts.specs.Parts.{textRows}
+use Rattle.parts.proofs.Calls.{kept, did, text-short}
+use borrow.Author.Needs.{needs}
+use Rattle.parts.proofs.checker.Checker.ciphertext.Statement.{statement}
+use Rattle.parts.proofs.checker.Checker.ciphertext.Tie as tie
+
+returns : tie.Need-returns
+returns c =
+    record { answer = c .before .text-number .ensures; after = kept _ _ _ (c .if1 .taken) }
+
+module _ (e : tie.Else1) where
+  abbrev q : tie.Start
+  q = e .before .before .before
+
+  passes : firstFailing (textRows (q .args .self .0) (length (q .args .part .now))) ≡ 0
+  passes = sym (e .before .text-number .ensures) ∙ e .if1 .left
+
+check-requires : tie.Need-check-requires
+check-requires c κs =
+    rw (c .in-message .ensures) (text-short _ _ (passes (c .before)))
+
+returns-2 : tie.Need-returns-2
+returns-2 c =
+    let i : tie.After-in-message = c .before .before in
+    let e : tie.Else1 = i .before in
+    record {
+      answer = e .before .text-number .ensures;
+      after = rw (c .with .ensures, c .before .check .ensures, i .in-message .ensures) (did _ _ (e .if1 .left));
+    }
+
+pub ciphertext-spec : {M : Type 1} → statement M
+ciphertext-spec =
+    tie.close
+    (tie.spec
+    (λ c κs. search needs)
+    returns
+    (λ c κs. search needs)
+    check-requires
+    (λ c κs. search needs)
+    returns-2)
