@@ -1,40 +1,49 @@
-/* Votrikany for C: sealing and opening with MORUS-1280-128, the line journal, and the readings in it.
+/* Votrikany for C: sealing and opening with MORUS-1280-128, at once or in parts, the line journal, and the readings in
+ * it.
  *
  * The functions are those of the crate `export`, proved to keep its specs/Promise.antt; that this file says the same in
  * words is read, and tested. Build the library with `rt staticlib export`, which writes target/staticlib/libexport.a:
  * x86-64 Linux code that wants nothing but `memcpy` and `memset` of the C library.
  *
- * Numbers given back. Each function but `votrikany_newer` returns one of these; what it leaves is said with it.
- *    0  done, opened, decoded                11  no newline up to the journal's end
- *    1  the tag differs                      12  the place is beyond the journal's end
- *    2  2^61 bytes or more                   13  the frame buffer has under 353 bytes
- *    3  the second buffer's length is        14  the place is the journal's end
- *       not the text's                       15  the line buffer is shorter than the line
- *    4  over 706 bytes before the newline    16  a roll mark: an empty line, no damage
- *    5  a byte is not 0-9 or a-f             17  not 20 bytes: no reading
- *    6  an odd number of digits              18  resident or active is above 2^53
- *    7  1 to 32 frame bytes                  19  active is above resident
- *    8  over 64 bytes of data                20  resident is zero
- *    9  the frame ends before its data does  21  the frame area is not 353 bytes
- *   10  over 256 bytes of message                for each slot
- *                                            22  the nonce is sixteen zero bytes
+ * Numbers given back. Each function but `votrikany_newer` and the two that begin a record returns one of these; what it
+ * leaves is said with it.
+ *    0  done, opened, decoded, the tag is    13  the frame buffer has under 353 bytes
+ *       right                                14  the place is the journal's end
+ *    1  the tag differs                      15  the line buffer is shorter than the line
+ *    2  2^61 bytes or more                   16  a roll mark: an empty line, no damage
+ *    3  the second buffer's length is        17  not 20 bytes: no reading
+ *       not the text's                       18  resident or active is above 2^53
+ *    4  over 706 bytes before the newline    19  active is above resident
+ *    5  a byte is not 0-9 or a-f             20  resident is zero
+ *    6  an odd number of digits              21  the frame area is not 353 bytes
+ *    7  1 to 32 frame bytes                      for each slot
+ *    8  over 64 bytes of data                22  the nonce is sixteen zero bytes
+ *    9  the frame ends before its data does  23  data after a part of the message
+ *   10  over 256 bytes of message            24  the record is closed: its tag was
+ *   11  no newline up to the journal's end       given or judged
+ *   12  the place is beyond the journal's
+ *       end
  *
  * What the caller owes. Nothing checks a caller that is not Rattle:
- *  - `key`, `nonce` and `tag` point to 16 bytes each. They, and the pointers to one size_t, double or uint32_t, are
- *    never null.
+ *  - `key`, `nonce` and `tag` point to 16 bytes each. They, and the pointers to one size_t, double, uint32_t or record,
+ *    are never null.
  *  - Any other pointer is to as many bytes as the length behind it says, but `slots` to as many words, each a size_t,
  *    and aligned as a size_t is. It may be null where that length is 0, and only there.
  *  - What is written to (each pointer without `const`) overlaps nothing else of the call. What is only read may overlap.
  *  - No other thread writes to any of it during the call, or reads what the call writes.
  *  - Doubles are rounded to nearest, and nothing traps, as a program starts: `votrikany_decode` divides as the thread
  *    is set.
- * The functions keep no pointer, allocate nothing and hold no state between calls, so any number of threads may be in them.
+ *  - A record, `votrikany_sealer` or `votrikany_checker`, is what `votrikany_sealer_begin` or `votrikany_checker_begin`
+ *    gave, or a copy of such a one; copies are independent of each other. One of all zero bytes is allowed too, and is
+ *    closed. Any other bytes are not: two of them are booleans.
+ * The functions keep no pointer, allocate nothing and hold no state between calls but in the caller's records, so any
+ * number of threads may be in them.
  * They always return. What stack they need is measured and not proved: less than 4,096 bytes in every call that
  * tests/library/stack.c makes, with `memcpy` and `memset` linked in.
  *
  * A nonce must not be used twice with one key: no function can see that, and none checks it. One nonce the journal
  * refuses: sixteen zero bytes, as where nobody set it, is neither written nor read, even if the tag is right (22). The
- * functions that seal and open take it as any other.
+ * functions that seal, open and check take it as any other.
  */
 #ifndef VOTRIKANY_H
 #define VOTRIKANY_H
@@ -72,7 +81,9 @@ enum {
     VOTRIKANY_ACTIVE_ABOVE = 19,
     VOTRIKANY_RESIDENT_ZERO = 20,
     VOTRIKANY_AREA_DIFFERS = 21,
-    VOTRIKANY_ZERO_NONCE = 22
+    VOTRIKANY_ZERO_NONCE = 22,
+    VOTRIKANY_DATA_LATE = 23,
+    VOTRIKANY_RECORD_CLOSED = 24
 };
 
 /* A frame is nonce (16), data count n (1), data (n), message or ciphertext (m), tag (16); a line is a frame in lowercase
@@ -119,6 +130,74 @@ uint8_t votrikany_seal(const uint8_t *key, const uint8_t *nonce, const uint8_t *
  */
 uint8_t votrikany_open(const uint8_t *key, const uint8_t *nonce, const uint8_t *ad, size_t ad_length,
                        const uint8_t *cipher, size_t cipher_length, const uint8_t *tag, uint8_t *out, size_t out_length);
+
+/* A message that comes in parts, as a heap map does that no host holds whole. A sealer takes the parts of the data,
+ * then those of the message, each sealed in place at once, and then gives the tag. A checker takes data, ciphertext
+ * and a tag, and says whether the tag is right; it hands out nothing of the message. Parts have any length, 0 too.
+ * However they are cut, ciphertext and tag are those of one call of `votrikany_seal_in_place`; so the tag does not say
+ * where the cuts were.
+ *
+ *     votrikany_sealer sealer = votrikany_sealer_begin(key, nonce);
+ *     votrikany_sealer_data(&sealer, host, host_length);
+ *     while ((length = next_part(part)) != 0) {
+ *         if (votrikany_sealer_message(&sealer, part, length) != VOTRIKANY_DONE)
+ *             return;
+ *         send(part, length);
+ *     }
+ *     votrikany_sealer_tag(&sealer, tag);
+ *     send(tag, 16);
+ *
+ * A refused call leaves record and part as they were: a part that is refused is still the message, and the record can
+ * go on with another.
+ * Each record is 216 bytes, aligned as a uint64_t is, and stands wherever the caller puts it. What is in it is not to
+ * be read or written: it is as secret as the key, and some bytes of the message are in it, of a checker too. Closing
+ * wipes nothing. Two copies of a sealer that go on apart seal two messages under one nonce, which must not be.
+ */
+typedef struct {
+    uint64_t words[27];
+} votrikany_sealer;
+
+typedef struct {
+    uint64_t words[27];
+} votrikany_checker;
+
+/* Gives a record that has taken nothing yet. The nonce may be any sixteen bytes. */
+votrikany_sealer votrikany_sealer_begin(const uint8_t *key, const uint8_t *nonce);
+
+/* Takes a part of the data.
+ *   0  it is taken.
+ *  24  the record is closed; 23 a part of the message has come, if only an empty one; 2 with this part the data would
+ *      have 2^61 bytes or more (in this order): the record is as it was.
+ */
+uint8_t votrikany_sealer_data(votrikany_sealer *sealer, const uint8_t *part, size_t part_length);
+
+/* Seals a part of the message where it stands. The first one, an empty one too, ends the data.
+ *   0  `part` holds its ciphertext.
+ *  24  the record is closed; 2 with this part the message would have 2^61 bytes or more (in this order): `part` and the
+ *      record are as they were.
+ */
+uint8_t votrikany_sealer_message(votrikany_sealer *sealer, uint8_t *part, size_t part_length);
+
+/* Puts the tag of all that came at `tag`. Where no part of the message came, that is the tag of the empty message.
+ *   0  `tag` holds the tag, and the record is closed: every further call with it answers 24.
+ *  24  it was closed before: `tag` is sixteen zero bytes, the record is as it was.
+ */
+uint8_t votrikany_sealer_tag(votrikany_sealer *sealer, uint8_t *tag);
+
+/* Gives a record that has taken nothing yet. The nonce may be any sixteen bytes. */
+votrikany_checker votrikany_checker_begin(const uint8_t *key, const uint8_t *nonce);
+
+/* Takes a part of the data, with the numbers of `votrikany_sealer_data`. */
+uint8_t votrikany_checker_data(votrikany_checker *checker, const uint8_t *part, size_t part_length);
+
+/* Takes a part of the ciphertext, with the numbers of `votrikany_sealer_message`. The part is only read. */
+uint8_t votrikany_checker_ciphertext(votrikany_checker *checker, const uint8_t *part, size_t part_length);
+
+/* Says whether `tag` is the tag of all that came.
+ *   0  it is; 1 it is not: what came is not to be used. Either way the record is closed.
+ *  24  it was closed before: the record is as it was, and nothing is said of the tag.
+ */
+uint8_t votrikany_checker_tag(votrikany_checker *checker, const uint8_t *tag);
 
 /* Seals data and a message into one line of the journal at the front of `line`, and puts the line's length at `size`.
  *   0  `line` begins with the line, newline included; the bytes behind it are as they were.

@@ -8,6 +8,8 @@ EDIT = "crates/buffers/must-fail/half_twice.edit"
 EXPORT = "crates/export/src/lib.rt"
 FILL = "crates/buffers/src/filling.rt"
 FIND = "crates/buffers/src/finding.rt"
+SEALER = "crates/parts/src/sealer.rt"
+PARTS = "crates/parts/proofs/Determined.antt"
 HEADER = "include/votrikany.h"
 BINDING = "bindings/rust/src/library.rs"
 IMPORT = "use mathlib.Core.List.{List, _++_}\n"
@@ -16,6 +18,8 @@ FAULTS = (
     ("promises", FILL, "    ensures {", "    // ensures {", "fill has no ensures"),
     ("promises", FIND, "\nfn holds", "\npub fn copy", "copy is the name of two public functions"),
     ("promises", FIND, "\nfn holds", "\npub extern \"C\" fn holds", "holds has no lemma"),
+    ("promises", SEALER, "pub fn message(", "pub fn data(", "data is the name of two public functions"),
+    ("promises", PARTS, "pub checker-tag :", "pub tag :", "tag has no lemma"),
     ("promises", DETERMINED, "pub bytes-of :", "bytes-of :", "bytes_of has no lemma"),
     ("promises", DETERMINED, "r₁ ≡ firstFrom v b at → r₂ ≡ firstFrom v b at →", "r₁ ≡ r₂ →", "the lemma of find"),
     ("promises", EXPORT, "SealedInPlace (now (key .entry)) (now (nonce .entry))",
@@ -44,6 +48,16 @@ FAULTS = (
     ("declared", HEADER, "size_t slots_length, ", "", "votrikany_read_lines is not"),
     ("declared", HEADER, "size_t *slots, size_t slots_length, uint8_t *frames, size_t frames_length",
      "uint8_t *frames, size_t frames_length, size_t *slots, size_t slots_length", "votrikany_read_lines is not"),
+    ("declared", HEADER, "votrikany_checker votrikany_checker_begin", "votrikany_sealer votrikany_checker_begin",
+     "votrikany_checker_begin is not"),
+    ("declared", HEADER, "votrikany_sealer *sealer, uint8_t *tag", "votrikany_checker *sealer, uint8_t *tag",
+     "votrikany_sealer_tag is not"),
+    ("declared", HEADER, "*sealer, uint8_t *part", "*sealer, const uint8_t *part", "votrikany_sealer_message is not"),
+    ("declared", BINDING, "votrikany_sealer_begin(key: *const u8, nonce: *const u8)",
+     "votrikany_sealer_begin(nonce: *const u8, key: *const u8)", "votrikany_sealer_begin is not"),
+    ("declared", BINDING, "nonce: *const u8) -> Checker;", "nonce: *const u8) -> Sealer;", "checker_begin is not"),
+    ("declared", BINDING, "checker: *mut Checker, tag", "checker: *mut Sealer, tag", "votrikany_checker_tag is not"),
+    ("declared", EXPORT, "sealer: &mut Sealer, tag", "sealer: &mut Checker, tag", "votrikany_sealer_tag is not"),
     ("declared", BINDING, "tick: *mut u32", "tick: *mut u64", "votrikany_decode is not"),
     ("declared", BINDING, "newer(a: u32, b: u32) -> bool;", "newer(b: u32, a: u32) -> bool;", "votrikany_newer is not"),
     ("declared", BINDING, "slots: *mut usize", "slots: *mut u8", "votrikany_read_lines is not"),

@@ -1,4 +1,4 @@
-/* How much stack the nine functions need. Each call runs on a stack of its own that was painted before, twice, in two
+/* How much stack the functions need. Each call runs on a stack of its own that was painted before, twice, in two
  * colours: the bytes from the lowest one that has lost its paint up are counted, with what starting the call takes. */
 #define _XOPEN_SOURCE 700
 #include <stdio.h>
@@ -13,6 +13,10 @@ static uint8_t nonce[16] = { 4, 5, 6 }, data[LONG], text[LONG], out[LONG], tag[1
 static uint8_t frames[SLOTS * VOTRIKANY_FRAME_SIZE];
 static struct votrikany_slot slots[SLOTS];
 static size_t data_length, text_length, out_length, line_length, frames_length, place, next, n, m, at;
+static votrikany_sealer sealer;
+static votrikany_checker checker;
+static uint8_t *part;
+static size_t part_length;
 static double ratio;
 static uint32_t tick;
 static uint8_t number;
@@ -55,6 +59,48 @@ static void read_lines(void)
                                   frames_length, &next);
 }
 
+static void sealer_begin(void)
+{
+    sealer = votrikany_sealer_begin(key, nonce);
+    number = VOTRIKANY_DONE;
+}
+
+static void sealer_data(void)
+{
+    number = votrikany_sealer_data(&sealer, part, part_length);
+}
+
+static void sealer_message(void)
+{
+    number = votrikany_sealer_message(&sealer, part, part_length);
+}
+
+static void sealer_tag(void)
+{
+    number = votrikany_sealer_tag(&sealer, tag);
+}
+
+static void checker_begin(void)
+{
+    checker = votrikany_checker_begin(key, nonce);
+    number = VOTRIKANY_DONE;
+}
+
+static void checker_data(void)
+{
+    number = votrikany_checker_data(&checker, part, part_length);
+}
+
+static void checker_ciphertext(void)
+{
+    number = votrikany_checker_ciphertext(&checker, part, part_length);
+}
+
+static void checker_tag(void)
+{
+    number = votrikany_checker_tag(&checker, tag);
+}
+
 static void decode(void)
 {
     number = votrikany_decode(text, text_length, &ratio, &tick);
@@ -85,9 +131,12 @@ static size_t used(void (*call)(void), uint8_t paint)
 static void measure(void (*call)(void), uint8_t wanted, const char *what)
 {
     static uint8_t old_text[LONG], old_out[LONG], old_tag[16];
+    votrikany_sealer old_sealer = sealer;
+    votrikany_checker old_checker = checker;
     memcpy(old_text, text, sizeof text), memcpy(old_out, out, sizeof out), memcpy(old_tag, tag, sizeof tag);
     size_t first = used(call, 0x5a);
     memcpy(text, old_text, sizeof text), memcpy(out, old_out, sizeof out), memcpy(tag, old_tag, sizeof tag);
+    sealer = old_sealer, checker = old_checker;
     size_t second = used(call, 0xa5);
     size_t larger = first > second ? first : second;
     calls++;
@@ -111,6 +160,27 @@ static void measure_reading(uint8_t wanted, const char *what)
     }
 }
 
+/* The second of two parts begins inside a block, or not. */
+static void two_parts(void (*call)(void), uint8_t *bytes, size_t length, const char *what)
+{
+    part = bytes, part_length = length / 3;
+    measure(call, VOTRIKANY_DONE, what);
+    part += part_length, part_length = length - part_length;
+    measure(call, VOTRIKANY_DONE, what);
+}
+
+static void in_parts(void)
+{
+    measure(sealer_begin, VOTRIKANY_DONE, "sealer_begin");
+    two_parts(sealer_data, data, data_length, "sealer_data");
+    two_parts(sealer_message, text, text_length, "sealer_message");
+    measure(sealer_tag, VOTRIKANY_DONE, "sealer_tag");
+    measure(checker_begin, VOTRIKANY_DONE, "checker_begin");
+    two_parts(checker_data, data, data_length, "checker_data");
+    two_parts(checker_ciphertext, text, text_length, "checker_ciphertext");
+    measure(checker_tag, VOTRIKANY_DONE, "checker_tag");
+}
+
 static void good(size_t data_bytes, size_t text_bytes)
 {
     data_length = data_bytes;
@@ -119,6 +189,8 @@ static void good(size_t data_bytes, size_t text_bytes)
     measure(open_in_place, 0, "open_in_place");
     measure(seal, 0, "seal");
     measure(open_sealed, 0, "open");
+    if (text_bytes <= 96 || text_bytes == LONG) /* a third of them ends at each place of a block */
+        in_parts();
     if (data_bytes <= VOTRIKANY_MOST_DATA && text_bytes <= VOTRIKANY_MOST_MESSAGE) {
         measure(write_line, 0, "write_line");
         measure_reading(VOTRIKANY_DONE, "read_line");
@@ -141,6 +213,31 @@ static void cipher_refused(void)
     measure(open_sealed, VOTRIKANY_TOO_LONG, "open, 2^61 bytes");
     measure(seal_in_place, VOTRIKANY_TOO_LONG, "seal_in_place, 2^61 bytes");
     measure(open_in_place, VOTRIKANY_TOO_LONG, "open_in_place, 2^61 bytes");
+}
+
+/* Parts too long, data too late, another tag, and each call to a closed record. */
+static void parts_refused(void)
+{
+    sealer_begin(), checker_begin();
+    part = text, part_length = (size_t)1 << 61;
+    measure(sealer_data, VOTRIKANY_TOO_LONG, "sealer_data, 2^61 bytes");
+    measure(checker_data, VOTRIKANY_TOO_LONG, "checker_data, 2^61 bytes");
+    measure(sealer_message, VOTRIKANY_TOO_LONG, "sealer_message, 2^61 bytes");
+    measure(checker_ciphertext, VOTRIKANY_TOO_LONG, "checker_ciphertext, 2^61 bytes");
+    part_length = 33;
+    measure(sealer_message, VOTRIKANY_DONE, "sealer_message");
+    measure(checker_ciphertext, VOTRIKANY_DONE, "checker_ciphertext");
+    measure(sealer_data, VOTRIKANY_DATA_LATE, "sealer_data after a message");
+    measure(checker_data, VOTRIKANY_DATA_LATE, "checker_data after a message");
+    measure(sealer_tag, VOTRIKANY_DONE, "sealer_tag");
+    tag[15] ^= 1;
+    measure(checker_tag, VOTRIKANY_TAG_DIFFERS, "checker_tag, another tag");
+    measure(sealer_data, VOTRIKANY_RECORD_CLOSED, "sealer_data after the tag");
+    measure(sealer_message, VOTRIKANY_RECORD_CLOSED, "sealer_message after the tag");
+    measure(sealer_tag, VOTRIKANY_RECORD_CLOSED, "sealer_tag after the tag");
+    measure(checker_data, VOTRIKANY_RECORD_CLOSED, "checker_data after the tag");
+    measure(checker_ciphertext, VOTRIKANY_RECORD_CLOSED, "checker_ciphertext after the tag");
+    measure(checker_tag, VOTRIKANY_RECORD_CLOSED, "checker_tag after the tag");
 }
 
 /* A line of `digits` zeros, with some bytes of it as given. */
@@ -209,6 +306,7 @@ int main(void)
         good(lengths[i], LONG);
     }
     cipher_refused();
+    parts_refused();
     journal_refused();
     readings();
     if (!failed)

@@ -1,4 +1,5 @@
-//! MORUS-1280-128 with the interface of the crate morus 0.1.5, and beside it the line journal ([`journal`]).
+//! MORUS-1280-128 with the interface of the crate morus 0.1.5, and beside it messages that come in parts ([`parts`])
+//! and the line journal ([`journal`]).
 //!
 //! The work is done by the proved library `export`, in x86-64 code; this crate hands over slices and takes the answers
 //! apart. A program over morus 0.1.5 takes this crate instead by one line of its Cargo.toml:
@@ -14,6 +15,7 @@ use core::fmt;
 
 pub mod journal;
 mod library;
+pub mod parts;
 
 /// Why an opening is refused.
 #[derive(Debug, Clone, Copy, Eq, PartialEq)]
@@ -49,7 +51,7 @@ pub struct Morus {
 }
 
 /// What an opening's number says. The lengths fit: no slice of bytes has 2^61 of them, since no address has so many bits, and
-/// a second buffer is made here.
+/// a second buffer is made here; parts were looked at as they came.
 fn opened(number: u8) -> Result<(), Error> {
     match number {
         0 => Ok(()),

@@ -1,8 +1,10 @@
 //! The functions of libexport.a, as include/votrikany.h declares them, and a safe function for each.
 //!
 //! What the header asks of a caller is met by the types: a reference is never null and points to what its type says, a
-//! slice's pointer to as many elements as its length says, and nothing that is lent `&mut` overlaps anything else.
+//! slice's pointer to as many elements as its length says, and nothing that is lent `&mut` overlaps anything else. A
+//! sealer or a checker is made here alone, by the library.
 use crate::journal::{Frame, FRAME_SIZE};
+use crate::parts::{Checker, Sealer};
 use crate::{Key, Nonce, Tag};
 
 /// The words of an answer of `read_lines`: number, next place, n, m and the answer's own place.
@@ -53,6 +55,18 @@ extern "C" {
         out: *mut u8,
         out_length: usize,
     ) -> u8;
+    fn votrikany_sealer_begin(key: *const u8, nonce: *const u8) -> Sealer;
+    fn votrikany_sealer_data(sealer: *mut Sealer, part: *const u8, part_length: usize) -> u8;
+    fn votrikany_sealer_message(sealer: *mut Sealer, part: *mut u8, part_length: usize) -> u8;
+    fn votrikany_sealer_tag(sealer: *mut Sealer, tag: *mut u8) -> u8;
+    fn votrikany_checker_begin(key: *const u8, nonce: *const u8) -> Checker;
+    fn votrikany_checker_data(checker: *mut Checker, part: *const u8, part_length: usize) -> u8;
+    fn votrikany_checker_ciphertext(
+        checker: *mut Checker,
+        part: *const u8,
+        part_length: usize,
+    ) -> u8;
+    fn votrikany_checker_tag(checker: *mut Checker, tag: *const u8) -> u8;
     fn votrikany_write_line(
         key: *const u8,
         nonce: *const u8,
@@ -163,6 +177,38 @@ pub fn open(key: &Key, nonce: &Nonce, ad: &[u8], cipher: &[u8], tag: &Tag, out: 
             out.len(),
         )
     }
+}
+
+pub fn sealer_begin(key: &Key, nonce: &Nonce) -> Sealer {
+    unsafe { votrikany_sealer_begin(key.as_ptr(), nonce.as_ptr()) }
+}
+
+pub fn sealer_data(sealer: &mut Sealer, part: &[u8]) -> u8 {
+    unsafe { votrikany_sealer_data(sealer, part.as_ptr(), part.len()) }
+}
+
+pub fn sealer_message(sealer: &mut Sealer, part: &mut [u8]) -> u8 {
+    unsafe { votrikany_sealer_message(sealer, part.as_mut_ptr(), part.len()) }
+}
+
+pub fn sealer_tag(sealer: &mut Sealer, tag: &mut Tag) -> u8 {
+    unsafe { votrikany_sealer_tag(sealer, tag.as_mut_ptr()) }
+}
+
+pub fn checker_begin(key: &Key, nonce: &Nonce) -> Checker {
+    unsafe { votrikany_checker_begin(key.as_ptr(), nonce.as_ptr()) }
+}
+
+pub fn checker_data(checker: &mut Checker, part: &[u8]) -> u8 {
+    unsafe { votrikany_checker_data(checker, part.as_ptr(), part.len()) }
+}
+
+pub fn checker_ciphertext(checker: &mut Checker, part: &[u8]) -> u8 {
+    unsafe { votrikany_checker_ciphertext(checker, part.as_ptr(), part.len()) }
+}
+
+pub fn checker_tag(checker: &mut Checker, tag: &Tag) -> u8 {
+    unsafe { votrikany_checker_tag(checker, tag.as_ptr()) }
 }
 
 pub fn write_line(
