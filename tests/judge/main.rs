@@ -127,6 +127,72 @@ fn newer(w: &[&str]) -> String {
     u8::from(reading::newer(tick(w[1]), tick(w[2]))).to_string()
 }
 
+/// What the calls of a line have handed over. The crate has no parts: which calls are taken is the specification's, and
+/// what comes of all that they handed over is one call of the crate.
+#[derive(Default)]
+struct Came {
+    data: Vec<u8>,
+    text: Vec<u8>,
+    begun: bool,
+    closed: bool,
+}
+
+impl Came {
+    /// The number of a call: 24 before 23. No line is long enough for 2.
+    fn call(&mut self, word: &str) -> u8 {
+        if self.closed {
+            return 24;
+        }
+        if word.starts_with('d') {
+            if self.begun {
+                return 23;
+            }
+            self.data.extend(part(word));
+        } else if word.starts_with('t') {
+            self.closed = true;
+        } else {
+            self.begun = true;
+            self.text.extend(part(word));
+        }
+        0
+    }
+}
+
+/// The bytes of a call.
+fn part(word: &str) -> Vec<u8> {
+    bytes(&word[2..])
+}
+
+fn joined(answers: impl Iterator<Item = String>) -> String {
+    answers.collect::<Vec<String>>().join(" ")
+}
+
+/// A part is taken from the one ciphertext, where its bytes stood in the message; a refused one is as it was.
+fn parts(w: &[&str]) -> String {
+    let mut came = Came::default();
+    let calls: Vec<(&str, u8, usize)> = w[3..].iter().map(|word| (*word, came.call(word), came.text.len())).collect();
+    let tag = cipher(w).encrypt_in_place(&mut came.text, &came.data);
+    joined(calls.iter().map(|&(word, number, end)| match (&word[..1], number) {
+        ("d", _) => number.to_string(),
+        ("t", 0) => format!("0={}", digits(&tag)),
+        ("t", _) => format!("{}={}", number, digits(&[0; 16])),
+        (_, 0) => format!("0={}", digits(&came.text[end - part(word).len()..end])),
+        (_, _) => format!("{}={}", number, digits(&part(word))),
+    }))
+}
+
+/// The verdict is the one call's.
+fn check(w: &[&str]) -> String {
+    let mut came = Came::default();
+    joined(w[3..].iter().map(|word| match (&word[..1], came.call(word)) {
+        ("t", 0) => match cipher(w).decrypt_in_place(&mut came.text, &sixteen(&word[2..]), &came.data) {
+            Ok(()) => "0".to_string(),
+            Err(_) => "1".to_string(),
+        },
+        (_, number) => number.to_string(),
+    }))
+}
+
 fn answer(line: &str) -> String {
     let w: Vec<&str> = line.split(' ').collect();
     match w[0] {
@@ -139,6 +205,8 @@ fn answer(line: &str) -> String {
         "many" => many(&w),
         "decode" => decode(&w),
         "newer" => newer(&w),
+        "parts" => parts(&w),
+        "check" => check(&w),
         name => panic!("no such case: {}", name),
     }
 }

@@ -3,6 +3,7 @@ mod answer;
 mod buffer;
 mod cipher;
 mod head;
+mod in_parts;
 mod journaling;
 mod kind;
 mod output;
@@ -10,7 +11,6 @@ mod readings;
 mod words;
 
 use answer::Answer;
-use kind::Kind;
 use lines::Window;
 
 // What a turn hands to the next: the bytes that wait to be read as lines, and how many bytes of answers wait to be
@@ -21,19 +21,18 @@ struct Run {
 }
 
 // The answer to one line, by its kind. Each kind takes its own words from the line.
-fn answer_to(line: &[u8]) -> Answer {
-    let kind = kind::kind_of(lines::word(line, 0));
+fn answer_to(line: &[u8], kind: usize) -> Answer {
     match kind {
-        Kind::Seal => cipher::seal(line),
-        Kind::Open => cipher::open(line),
-        Kind::Seal2 => cipher::seal2(line),
-        Kind::Open2 => cipher::open2(line),
-        Kind::Write => journaling::write(line),
-        Kind::Read => journaling::read(line),
-        Kind::Many => journaling::many(line),
-        Kind::Decode => readings::decode(line),
-        Kind::Newer => readings::newer(line),
-        Kind::None => Answer::none(),
+        kind::SEAL => cipher::seal(line),
+        kind::OPEN => cipher::open(line),
+        kind::SEAL2 => cipher::seal2(line),
+        kind::OPEN2 => cipher::open2(line),
+        kind::WRITE => journaling::write(line),
+        kind::READ => journaling::read(line),
+        kind::MANY => journaling::many(line),
+        kind::DECODE => readings::decode(line),
+        kind::NEWER => readings::newer(line),
+        _ => Answer::none(),
     }
 }
 
@@ -45,10 +44,17 @@ fn line_to(input: &[u8], w: Window, end: usize) -> &[u8] {
     lines::part(input, w.from, end)
 }
 
-// Puts the answer to one line.
+// Puts the answer to one line. In parts each call's answer is put at once.
 fn reply(line: &[u8], out: &mut [u8], answers: usize) -> usize {
     let at = output::with_room(out, answers);
-    output::put_answer(answer_to(line), out, at)
+    let kind = kind::kind_of(lines::word(line, 0));
+    if kind == kind::PARTS {
+        return in_parts::parts(line, out, at);
+    }
+    if kind == kind::CHECK {
+        return in_parts::check(line, out, at);
+    }
+    output::put_answer(answer_to(line, kind), out, at)
 }
 
 // Answers the next whole line, or reads more where none waits.

@@ -2,15 +2,12 @@
 // bytes, and gives the new number of them.
 use crate::answer::Answer;
 use crate::answer::NUMBERS;
-use crate::buffer::SIZE;
 use crate::buffer::front;
+use crate::in_parts::LONGEST;
 use hex::Written;
 use morus::Tag;
 use std::num::wrapping_add_usize;
-
-// No answer is longer: twenty digits and a space for each number, the digits of a buffer, a space, those of a tag, and
-// the newline.
-const LONGEST: usize = 21 * NUMBERS + 2 * SIZE + 34;
+use std::num::wrapping_sub_usize;
 
 // Writes what waits.
 pub(crate) fn flush(out: &[u8], at: usize) {
@@ -19,7 +16,7 @@ pub(crate) fn flush(out: &[u8], at: usize) {
     }
 }
 
-// Makes room for one answer.
+// Makes room for one answer: those in parts are the longest.
 pub(crate) fn with_room(out: &[u8], at: usize) -> usize {
     if at <= out.len() {
         if LONGEST <= out.len() - at {
@@ -43,7 +40,7 @@ fn put_decimal(out: &mut [u8], at: usize, number: usize) -> usize {
 }
 
 // A number and a space.
-fn put_number(out: &mut [u8], at: usize, number: usize) -> usize {
+pub(crate) fn put_number(out: &mut [u8], at: usize, number: usize) -> usize {
     let end = put_decimal(out, at, number);
     put_text(out, end, b" ")
 }
@@ -109,4 +106,20 @@ fn put_line(a: Answer, out: &mut [u8], at: usize) -> usize {
 pub(crate) fn put_answer(a: Answer, out: &mut [u8], at: usize) -> usize {
     let end = put_line(a, out, at);
     put_text(out, end, b"\n")
+}
+
+// A number with bytes behind `=`, and a space.
+pub(crate) fn put_both(out: &mut [u8], at: usize, number: usize, bytes: &[u8]) -> usize {
+    let middle = put_decimal(out, at, number);
+    let from = put_text(out, middle, b"=");
+    let end = put_bytes(out, from, bytes);
+    put_text(out, end, b" ")
+}
+
+// The line of the words from `at` to `end`, each with a space behind it, `?` where there are none.
+pub(crate) fn put_end(out: &mut [u8], at: usize, end: usize) -> usize {
+    if end == at {
+        return put_text(out, at, b"?\n");
+    }
+    put_text(out, wrapping_sub_usize(end, 1), b"\n")
 }
