@@ -4,8 +4,10 @@
  *   driver time KIND N M            nanoseconds a call, ours and the Rust's: the best of 40 batches each, taken in turn
  *   driver journal BYTES            a key line and a journal of so many bytes, lines of n = 64, m = 256 and n = 0, m = 20 in turn
  * KIND is seal, open, write, read, or for 100 lines `each`, a call for each of them and the 100 taken as one here, or
- * `many`, one call for all; N is the bytes of data, M of message. Buffers are warm: the same ones at each call.
- * With -DNO_LINES the archive has no write and read; with -DNO_MANY it has none for many lines.
+ * `many`, one call for all; or `parts-K` and `check-K`: ours seals or checks in parts of K bytes, and the Rust seals or
+ * opens by one call. N is the bytes of data, M of message. Buffers are warm: the same ones at each call.
+ * With -DNO_LINES the archive has no write and read; with -DNO_MANY it has none for many lines; with -DNO_PARTS it has
+ * no records for parts.
  */
 #define _POSIX_C_SOURCE 200809L
 #include <stdio.h>
@@ -68,7 +70,44 @@ struct side {
     write_call *write;
     read_call *read;
     many_call *many;
+    seal_call *parts;
+    open_call *check;
 };
+
+/* The bytes of a part. */
+static size_t part;
+
+#ifdef NO_PARTS
+#define parts_seal none_seal
+#define parts_check none_open
+#else
+/* The last part is what is left over. */
+static size_t part_length(size_t from, size_t m)
+{
+    return m - from < part ? m - from : part;
+}
+
+/* The data in one part and the message in parts, from begin to tag. The answer is 0 where each call's is. */
+static uint8_t parts_seal(const uint8_t *k, const uint8_t *o, const uint8_t *a, size_t n, uint8_t *x, size_t m,
+                          uint8_t *t)
+{
+    votrikany_sealer record = votrikany_sealer_begin(k, o);
+    uint8_t number = votrikany_sealer_data(&record, a, n);
+    for (size_t i = 0; i < m; i += part)
+        number |= votrikany_sealer_message(&record, x + i, part_length(i, m));
+    return number | votrikany_sealer_tag(&record, t);
+}
+
+static uint8_t parts_check(const uint8_t *k, const uint8_t *o, const uint8_t *a, size_t n, uint8_t *x, size_t m,
+                           const uint8_t *t)
+{
+    votrikany_checker record = votrikany_checker_begin(k, o);
+    uint8_t number = votrikany_checker_data(&record, a, n);
+    for (size_t i = 0; i < m; i += part)
+        number |= votrikany_checker_ciphertext(&record, x + i, part_length(i, m));
+    return number | votrikany_checker_tag(&record, t);
+}
+#endif
 
 #ifdef NO_LINES
 #define votrikany_write_line none_write
@@ -78,10 +117,10 @@ struct side {
 #define votrikany_read_lines none_many
 #endif
 static const struct side ours = { votrikany_seal_in_place, votrikany_open_in_place, votrikany_write_line,
-                                  votrikany_read_line, votrikany_read_lines };
+                                  votrikany_read_line, votrikany_read_lines, parts_seal, parts_check };
 static const struct side rust = { rust_seal_in_place, rust_open_in_place, rust_write_line, rust_read_line,
-                                  rust_read_lines };
-static const struct side none = { none_seal, none_open, none_write, none_read, none_many };
+                                  rust_read_lines, rust_seal_in_place, rust_open_in_place };
+static const struct side none = { none_seal, none_open, none_write, none_read, none_many, none_seal, none_open };
 
 /* What goes in, and for opening and reading what the Rust made of it. */
 static uint8_t key[16], nonce[16], ad[MOST], message[MOST], sealed[MOST], tag[16], line[LINE], lines[COUNT * LINE];
@@ -151,6 +190,14 @@ static void call(const char *kind, const struct side *s, struct outcome *o)
     case 'e':
         each(s, o);
         break;
+    case 'p':
+        memcpy(o->text, message, m);
+        o->number = s->parts(key, nonce, ad, n, o->text, m, o->tag);
+        break;
+    case 'c':
+        memcpy(o->text, sealed, m);
+        o->number = s->check(key, nonce, ad, n, o->text, m, tag);
+        break;
     case 'm':
         o->number = s->many(lines, lines_size, 0, key, o->slots, COUNT * SLOT, o->frames, sizeof o->frames, &o->next);
         break;
@@ -168,13 +215,43 @@ static int well(const struct outcome *o)
     return good;
 }
 
+/* What the same work leaves by other calls: one for all lines what one for each does, parts what one call does. */
+static void otherwise(const char *kind, struct outcome *o)
+{
+    switch (kind[0]) {
+    case 'm':
+        call("each", &rust, o);
+        break;
+    case 'p':
+        call("seal", &ours, o);
+        break;
+    case 'c':
+        call("open", &ours, o);
+        break;
+    default:
+        call(kind, &rust, o);
+    }
+}
+
+/* Checking hands out no message: the text must be as it was, and becomes what opening leaves. Another tag answers 1. */
+static int checked(struct outcome *o)
+{
+    uint8_t other[16];
+    memcpy(other, tag, sizeof other);
+    other[15] ^= 1;
+    int good = ours.check(key, nonce, ad, n, o->text, m, other) == 1 && memcmp(o->text, sealed, m) == 0;
+    memcpy(o->text, message, m);
+    return good;
+}
+
 static int check(const char *kind)
 {
     static struct outcome a, b, c;
     call(kind, &ours, &a);
     call(kind, &rust, &b);
-    call(kind[0] == 'm' ? "each" : kind, &rust, &c); /* one call for all leaves what a call for each does */
-    if (well(&a) && memcmp(&a, &b, sizeof a) == 0 && memcmp(&a, &c, sizeof a) == 0)
+    otherwise(kind, &c);
+    int good = well(&a) && (kind[0] != 'c' || checked(&a));
+    if (good && memcmp(&a, &b, sizeof a) == 0 && memcmp(&a, &c, sizeof a) == 0)
         return 0;
     fprintf(stderr, "driver: %s of n = %zu, m = %zu differs: ours answers %d, the Rust %d\n", kind, n, m, a.number, b.number);
     return 1;
@@ -243,7 +320,10 @@ int main(int argc, char **argv)
     }
     if (argc < 5 || number(argv[3]) > MOST || number(argv[4]) > MOST)
         return 2;
-    const char *what = argv[1], *kind = argv[2];
+    const char *what = argv[1], *kind = argv[2], *dash = strchr(kind, '-');
+    part = dash ? number(dash + 1) : MOST;
+    if (part == 0)
+        return 2;
     prepare(number(argv[3]), number(argv[4]));
     if (strcmp(what, "check") == 0)
         return check(kind);
