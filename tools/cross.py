@@ -66,42 +66,39 @@ def rust_source():
 
 
 def kit():
-    """The kit's toolchain folder for this machine."""
+    """The kit's toolchain folder."""
     rt = shutil.which("rt")
     if not rt:
         raise Missing("rt is not on the path")
-    return pathlib.Path(rt).resolve().parent.parent / "on" / platform.machine() / "toolchain"
+    return pathlib.Path(rt).resolve().parent.parent / "toolchain"
 
 
 def emulator():
     """The words before a statically linked x86-64 program that run it: none on x86-64."""
     if NATIVE:
         return []
-    for found in (shutil.which("qemu-x86_64"), kit() / "bin" / "qemu-x86_64"):
-        if found and os.access(found, os.X_OK):
-            return [str(found)]
-    raise Missing(f"qemu-x86_64 is not installed{HINT}")
+    found = shutil.which("qemu-x86_64")
+    if not found:
+        raise Missing(f"qemu-x86_64 is not installed{HINT}")
+    return [found]
 
 
 def loader():
-    """The words before a dynamically linked x86-64 program: on another machine the emulator of Debian's qemu-user (the
-    kit's does not run a Rust program) with the kit's loader and C library."""
+    """The words before a dynamically linked x86-64 program: on another machine the emulator, with the kit's loader and
+    C library."""
     if NATIVE:
         return []
-    found = shutil.which("qemu-x86_64")
-    if not found:
-        raise Missing(f"qemu-x86_64 (Debian's qemu-user) is not installed{HINT}")
     lib = kit() / "lib"
-    return [found, str(lib / "ld-linux-x86-64.so.2"), "--library-path", str(lib)]
+    return [*emulator(), str(lib / "ld-linux-x86-64.so.2"), "--library-path", str(lib)]
 
 
 def library():
     """The archive of the crate `export`, proved and built anew."""
     output = {"stdout": subprocess.PIPE, "stderr": subprocess.STDOUT, "text": True}
-    run = subprocess.run(["rt", "staticlib", "export"], cwd=ROOT, **output)
+    run = subprocess.run([ROOT / "tools" / "build", "export"], **output)
     if run.returncode != 0:
-        raise SystemExit(run.stdout[-3000:] + "\nrt staticlib export: not built")
-    return ROOT / "target" / "staticlib" / "libexport.a"
+        raise SystemExit(run.stdout[-3000:] + "\ntools/build export: not built")
+    return ROOT / "crates" / "export" / "out" / "libexport.a"
 
 
 def rust(out, source, *words, kind="rlib", name=None):

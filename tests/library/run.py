@@ -1,7 +1,7 @@
 """The library from C and from Rust: links, runs and compares. tests/gate-library runs this.
 
-Builds `rt staticlib export`, then examples/*.c and tests/library/*.c with warnings as errors, bindings/rust, and one
-source file against the Rust crate and against bindings/rust, whose outputs must be the same. The library is x86-64
+Builds the library by tools/build, then examples/*.c and tests/library/*.c with warnings as errors, bindings/rust, and
+one source file against the Rust crate and against bindings/rust, whose outputs must be the same. The library is x86-64
 code: on another machine this uses the cross tools that tools/install-cross installs. What is missing is said, and what
 needs it is left out. Exit status: 0 all that could run passed, 1 something did not.
 """
