@@ -1,7 +1,7 @@
 /* Votrikany from C: seals and opens a message, writes two readings into a journal with a roll mark between them, is
  * refused a third whose nonce is all zeros, and reads and decodes the two, whole and damaged, line by line and all in
  * one call.
- *   cc -Iinclude examples/library.c target/staticlib/libexport.a
+ *   cc -Iinclude examples/library.c crates/export/out/libexport.a
  */
 #include <inttypes.h>
 #include <stdio.h>

@@ -1,5 +1,5 @@
 /* Votrikany from C, in parts: seals a file piece by piece, so that it is never held whole, and checks a sealed one.
- *   cc -Iinclude -o parts examples/parts.c target/staticlib/libexport.a
+ *   cc -Iinclude -o parts examples/parts.c crates/export/out/libexport.a
  *   ./parts seal 1 heap.map heap.sealed
  *   ./parts check heap.sealed
  * A sealed file is the nonce (16 bytes), the ciphertext and the tag (16). The nonce is made of the number: with one

@@ -2,7 +2,7 @@
  * it.
  *
  * The functions are those of the crate `export`, proved to keep its specs/Promise.antt; that this file says the same in
- * words is read, and tested. Build the library with `rt staticlib export`, which writes target/staticlib/libexport.a:
+ * words is read, and tested. Build the library with `tools/build export`, which writes crates/export/out/libexport.a:
  * x86-64 Linux code that wants nothing but `memcpy` and `memset` of the C library.
  *
  * Numbers given back. Each function but `votrikany_newer` and the two that begin a record returns one of these; what it
