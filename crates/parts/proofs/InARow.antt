@@ -53,7 +53,8 @@ pub record CheckDone (r : Intake) (a : ℕ) (cs : List (List ℕ)) (ns : List �
   pub numbers : ns ≡ replicate (length cs) 0
   pub ready : Ready w (checking r (flatten cs)) a
 
-pub checks : {w w' : Work} {cs : List (List ℕ)} {ns : List ℕ} {a : ℕ} → CheckCalls w cs ns w' → (r : Intake) → Ready w r a
+pub checks : {w w' : Work} {cs : List (List ℕ)} {ns : List ℕ} {a : ℕ} → CheckCalls w cs ns w' → (r : Intake)
+    → Ready w r a
     → a < limit → r.count + length (flatten cs) < limit → CheckDone r a cs ns w'
 unfolding checking flatten
 checks CheckCalls.none r v ha h = record { numbers = refl; ready = v }
