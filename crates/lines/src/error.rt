@@ -28,7 +28,7 @@ impl WordError {
     ghost use Rattle.lines.specs.WordNumber.{number_of};
 
     /// Its number: 5 or 6, which are a refusal's, or one of 253 to 255, which no refusal has.
-    // Numbers beside the enum: promised, and bent by the edit not_sixteen_has_the_number_of_nothing.
+    // By a match: with discriminants two equal numbers would be the compiler's to refuse, and not the promise's.
     pub fn number(self) -> u8
         ensures { result ≡ number_of self }
     {
