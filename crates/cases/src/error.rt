@@ -1,22 +1,20 @@
 //! Why a line has no answer.
 use lines::WordError;
-use std::alloc::AllocError;
+use std::fmt;
 
+/// The line is no case.
 #[derive(Clone, Copy, Debug, PartialEq, Eq)]
-pub(crate) enum CaseError {
-    /// The line is no case.
-    NoCase,
-    OutOfMemory(AllocError),
-}
+pub(crate) struct NoCase;
 
-impl From<AllocError> for CaseError {
-    fn from(e: AllocError) -> CaseError {
-        CaseError::OutOfMemory(e)
+impl From<WordError> for NoCase {
+    fn from(_e: WordError) -> NoCase {
+        NoCase
     }
 }
 
-impl From<WordError> for CaseError {
-    fn from(_e: WordError) -> CaseError {
-        CaseError::NoCase
+// Never: before each answer there is room for the longest.
+impl From<fmt::Error> for NoCase {
+    fn from(_e: fmt::Error) -> NoCase {
+        NoCase
     }
 }
