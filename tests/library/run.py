@@ -45,7 +45,17 @@ def c_program(room, archive, source):
     return run(cross.emulator(), built(room, archive, source))
 
 
+def alone(room, archive):
+    """The whole archive, linked with no C library but what tests/library/alone.c has of it."""
+    whole = ["-nostdlib", "-static", "-Wl,--whole-archive"]
+    command = [cross.c_compiler(), *WARNINGS, "-o", room / "alone", LIBRARY / "alone.c", *whole, archive]
+    if subprocess.run([str(word) for word in command]).returncode != 0:
+        failed("the archive wants more from outside than memcpy and memset")
+    print("gate-library: the archive wants nothing from outside but memcpy and memset")
+
+
 def from_c(room, archive):
+    alone(room, archive)
     if c_program(room, archive, cross.ROOT / "examples" / "library.c") != (LIBRARY / "example.stdout").read_bytes():
         failed("examples/library.c writes something else than tests/library/example.stdout")
     if example_in_parts(room, archive) != (LIBRARY / "parts.stdout").read_bytes():

@@ -1,9 +1,9 @@
 // Blocks sealed or opened in their place: one loop for both.
-ghost use Rattle.std.specs.Prelude.{◌≡◌, ◌+◌, ◌-◌, ◌<◌, ◌≤◌, ℕ, List, min, length, drop};
+ghost use Rattle.std.specs.Prelude.{◌≡◌, ◌+◌, ◌-◌, ◌<◌, ◌≤◌, ℕ, List, min, length};
 ghost use Rattle.std.proofs.Math.Seq.{paste};
-ghost use Rattle.buffers.specs.Bytes.{padded};
 ghost use Rattle.state.specs.declared.State.{State};
-ghost use Rattle.state.specs.Block.{sealing, opening};
+ghost use Rattle.state.specs.Block.{sealing, opening, stream};
+ghost use Rattle.state.specs.Xor.{xor_lists};
 ghost use Rattle.morus.specs.Blocks.{bytes_by, state_by};
 ghost use Rattle.morus.specs.InPlace.{BlockDone};
 
@@ -12,32 +12,37 @@ use state::State;
 use state::block::block;
 use state::lane::Lane;
 
-// The whole block of `m` from byte `at` on. `#[inline(always)]` on all that is done to a whole block: the state then
-// stays in registers from block to block.
-#[inline(always)]
-fn whole_block(m: &[u8], at: usize) -> [u8; 32]
-    requires { at + 32 ≤ length m.now }
-    ensures { result ≡ padded 32 (drop at m.now) }
-{
-    let mut b = [0u8; 32];
-    b.copy_from_slice(&m[at..at + 32]);
-    b
-}
-
-// The block `b` over the whole block of `m` from byte `at` on.
-#[inline(always)]
-fn put_block(m: &mut [u8], at: usize, b: [u8; 32])
-    requires { at + 32 ≤ length m.old }
-    ensures { m.new ≡ paste m.old at b 32 }
-{
-    m[at..at + 32].copy_from_slice(&b);
-}
-
 // The block `b`, by value as `masked` gives it, over the bytes of `m` from byte `i` on, as far as `m` goes.
 fn store(m: &mut [u8], i: usize, b: [u8; 32])
     ensures { m.new ≡ paste m.old i b (min (length m.old - i) 32) }
 {
     copy(m, i, &b);
+}
+
+// The whole block `m` by `enc`, which stores it in its place before the update: stored after it, sealing 65,536 bytes
+// takes 4 % more instructions; and read out through the array, opening as many takes 3 % more. `#[inline(always)]` on
+// all that is done to a whole block: the state then stays in registers from block to block.
+#[inline(always)]
+fn enc_whole(s: State, m: &mut [u8]) -> State
+    requires { length m.old ≡ 32 }
+    ensures state { result ≡ sealing s m.old }
+    ensures bytes { m.new ≡ xor_lists m.old (stream s) }
+{
+    let mut src = [0u8; 32];
+    src.copy_from_slice(m);
+    s.enc(m.as_mut_array().unwrap(), src)
+}
+
+// The whole block `m` by `dec`, likewise.
+#[inline(always)]
+fn dec_whole(s: State, m: &mut [u8]) -> State
+    requires { length m.old ≡ 32 }
+    ensures state { result ≡ opening s m.old }
+    ensures bytes { m.new ≡ xor_lists m.old (stream s) }
+{
+    let mut src = [0u8; 32];
+    src.copy_from_slice(m);
+    s.dec(m.as_mut_array().unwrap(), src)
 }
 
 // What is done to a block from byte `at` on, a whole one or the last part; `after` is the state after it. Whole blocks
@@ -54,7 +59,7 @@ pub(crate) trait Direction {
         ensures { BlockDone after s mc.old at result mc.new };
 }
 
-// A block as `enc` does it, but stored before the update: after it, sealing 65,536 bytes takes 4 % more instructions.
+// A whole block by `enc`. The last part is what `enc` does, in its two steps, so that `enc` has one place, the loop.
 pub(crate) struct Sealing;
 
 impl Direction for Sealing {
@@ -62,9 +67,7 @@ impl Direction for Sealing {
 
     #[inline(always)]
     fn whole(s: State, mc: &mut [u8], at: usize) -> State {
-        let src = whole_block(mc, at);
-        put_block(mc, at, s.masked(src));
-        s.update(Lane::from_bytes(&src))
+        enc_whole(s, &mut mc[at..at + 32])
     }
 
     fn last(s: State, mc: &mut [u8], at: usize) -> State {
@@ -74,7 +77,7 @@ impl Direction for Sealing {
     }
 }
 
-// A block as `dec` and `dec_partial` do it, likewise.
+// A block by `dec`, and the last part by `dec_partial`.
 pub(crate) struct Opening;
 
 impl Direction for Opening {
@@ -82,9 +85,7 @@ impl Direction for Opening {
 
     #[inline(always)]
     fn whole(s: State, mc: &mut [u8], at: usize) -> State {
-        let opened = s.masked(whole_block(mc, at));
-        put_block(mc, at, opened);
-        s.update(Lane::from_bytes(&opened))
+        dec_whole(s, &mut mc[at..at + 32])
     }
 
     fn last(s: State, mc: &mut [u8], at: usize) -> State {

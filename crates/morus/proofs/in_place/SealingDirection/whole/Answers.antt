@@ -1,11 +1,17 @@
--- A block as `enc` does it, stored before the update.
-use Rattle.std.proofs.Common.{arith}
-use Rattle.state.specs.Block.{sealing}
-use Rattle.morus.proofs.Blockwise.{sealed_done}
+-- The part of 32 bytes is the block, and what `enc` leaves there is pasted over it.
+use Rattle.std.proofs.Common.{◌≡◌, ◌+◌, ◌-◌, refl, take, drop, length-drop, arith, sym}
+use Rattle.std.proofs.lemmas.Slice.{put_mid-paste}
+use Rattle.buffers.specs.Bytes.{padded}
+use Rattle.buffers.proofs.Padding.{padded_take}
+use Rattle.morus.proofs.Blockwise.{sealed_done, out_length}
 use Rattle.morus.proofs.in_place.SealingDirection.whole.Goals as goal
 
 pub returns : goal.returns
-unfolding sealing
 returns c =
-    sealed_done _ _ _ 32 (omega arith) (omega arith) c.whole_block-src.ensures
-    (rw (c.update.ensures, c.from_bytes.ensures), c.masked.ensures) c.put_block.ensures
+    let m = c.args.mc.now in
+    let at = c.args.at in
+    let e : at + 32 - at ≡ 32 = omega arith in
+    let part : take (at + 32 - at) (drop at m) ≡ padded 32 (drop at m) =
+    rw e (sym (padded_take 32 (drop at m) (rw length-drop (omega (arith, c.requires))))) in
+    sealed_done m _ at 32 (omega (arith, c.requires)) (omega (arith, c.requires)) part (c.enc_whole.ensures.state, refl)
+    (put_mid-paste at (at + 32 - at) m _ _ 32 c.enc_whole.ensures.bytes (sym e) (out_length _ _ part refl))
