@@ -4,6 +4,7 @@ ghost use Rattle.answers.specs.Refusal.{number_of};
 ghost use Rattle.sealing.specs.Line.{number_with, word_about};
 
 use answers::Refusal;
+use answers::sizes::{MOST_DATA, MOST_MESSAGE};
 use lines::WordError;
 use std::error::Error;
 use std::fmt;
@@ -87,22 +88,31 @@ impl From<Refusal> for Unsealed {
     }
 }
 
-// By hand, where other errors derive it: the text goes by the word and by what is wrong with it together.
+// By hand, where other errors derive it: the word is told by `word`, and the number of what is too long, zero or
+// without room by `number`, as both are promised.
 impl fmt::Display for Unsealed {
     fn fmt<W: fmt::Write>(&self, f: &mut fmt::Formatter<W>) -> fmt::Result {
+        let about = match self.word() {
+            1 => "nonce: ",
+            2 => "data: ",
+            3 => "message: ",
+            _ => "",
+        };
+        f.write_str(about)?;
+        let number = self.number();
         match self {
             Unsealed::NotThreeWords => {
                 f.write_str("not three words, NONCE DATA MESSAGE, with single spaces between")
             }
-            Unsealed::Nonce(e) => write!(f, "nonce: {e}"),
-            Unsealed::Data(WordError::NoRoom) => f.write_str("data: over 64 bytes (8)"),
-            Unsealed::Data(e) => write!(f, "data: {e}"),
-            Unsealed::Message(WordError::NoRoom) => f.write_str("message: over 256 bytes (10)"),
-            Unsealed::Message(e) => write!(f, "message: {e}"),
-            Unsealed::Unwritten(Refusal::ZeroNonce) => f.write_str(
-                "nonce: sixteen zero bytes (22)",
-            ),
-            Unsealed::Unwritten(Refusal::LineTooSmall) => f.write_str("no room for the line (15)"),
+            Unsealed::Data(WordError::NoRoom) => write!(f, "over {} bytes ({number})", MOST_DATA),
+            Unsealed::Message(WordError::NoRoom) => {
+                write!(f, "over {} bytes ({number})", MOST_MESSAGE)
+            }
+            Unsealed::Nonce(e) | Unsealed::Data(e) | Unsealed::Message(e) => write!(f, "{e}"),
+            Unsealed::Unwritten(Refusal::ZeroNonce) => write!(f, "sixteen zero bytes ({number})"),
+            Unsealed::Unwritten(Refusal::LineTooSmall) => {
+                write!(f, "no room for the line ({number})")
+            }
             Unsealed::Unwritten(refusal) => write!(f, "{refusal}"),
         }
     }
