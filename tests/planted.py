@@ -30,12 +30,12 @@ SEALER = "crates/parts/src/sealer.rt"
 INTAKE = "crates/parts/src/intake.rt"
 PARTS = "crates/parts/proofs/Determined.antt"
 DEMANDS = "crates/demands/src/lib.rt"
-READS = "crates/cases/src/input.rt"
+OUTPUT = "crates/cases/src/output.rt"
 ANSWERS = "crates/cases/src/main.rt"
 WRITES = "crates/seal/src/output.rt"
 HEADER = "include/votrikany.h"
 BINDING = "bindings/rust/src/library.rs"
-LAST = "        if found == Found::LastLine {\n            break;\n        }\n    }\n"
+PUT = "        let _ = output.write_str(\"?\");\n    }\n    let _ = output.write_str(\"\\n\");\n"
 IMPORT = "use mathlib.Core.List.{List, ◌++◌}\n"
 FAULTS = (
     ("promises", KEY, "    ensures {", "    requires { v < 256 }\n    ensures {", "key_line has a requires"),
@@ -114,7 +114,7 @@ FAULTS = (
      "an impl of Turns, and no rule"),
     ("promises", IN_PLACE, "pub(crate) trait Direction", "pub trait Direction", "an impl of Direction, and no rule"),
     ("promises", IN_PLACE, "pub(crate) trait Direction", "pub unsafe trait Direction", "the public trait Direction"),
-    ("promises", IN_PLACE, "// A block as `enc`", "#[deprecated] pub trait Turn {}\n\n// A block as `enc`",
+    ("promises", IN_PLACE, "// A whole block by `enc`", "#[deprecated] pub trait Turn {}\n\n// A whole block by `enc`",
      "the public trait Turn"),
     ("promises", IN_PLACE, "impl Direction for Sealing", "impl state::Direction for Sealing",
      "an impl of Direction, and no rule"),
@@ -173,9 +173,9 @@ FAULTS = (
     ("imports", TEXT, "{Refusal, sizes}", "{Refusal as Sizes, sizes}", "Sizes is unused"),
     # a trait whose methods are called
     ("imports", WRITES, "use std::io::Write;", "use crate::Write;", "Write is unused"),
-    ("imports", READS, "input.by_ref().take(ROOM as u64).read_until(", "input.read_until(", "Read is unused"),
-    ("imports", ANSWERS, "        let _ = writeln!(output, \"{answer}\");\n" + LAST + "    let _ = output.flush();\n",
-     LAST, "Write is unused"),
+    ("imports", OUTPUT, "use std::fmt;", "use std::fmt;\nuse std::io::Read;", "Read is unused"),
+    ("imports", OUTPUT, "        let _ = rt.stdout().write_all(&self.buffer[..count]);\n", "", "Write is unused"),
+    ("imports", ANSWERS, PUT, "    }\n", "Write is unused"),
     # all of a module
     ("imports", LANE, "use std::simd::prelude::*;", "use std::ops::*;", "a form that this test cannot read"),
     ("imports", BLOCK, "use buffers::padded;", "use buffers::padded;\nuse std::simd::prelude::*;",
