@@ -20,7 +20,7 @@ fn store(m: &mut [u8], i: usize, b: [u8; 32])
 }
 
 // The whole block `m` by `enc`, which stores it in its place before the update: stored after it, sealing 65,536 bytes
-// takes 4 % more instructions; and read out through the array, opening as many takes 3 % more. `#[inline(always)]` on
+// takes 4 % more instructions; and read out through the array, opening as many takes 4 % more. `#[inline(always)]` on
 // all that is done to a whole block: the state then stays in registers from block to block.
 #[inline(always)]
 fn enc_whole(s: State, m: &mut [u8]) -> State
